@@ -1,0 +1,5 @@
+pub mod Branch
+pub mod Bounds
+pub mod Bytes
+pub mod Cases
+pub mod Stores
