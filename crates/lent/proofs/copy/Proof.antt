@@ -26,11 +26,10 @@ loop-again : tie.Need-loop-again Inv-loop μ-loop
 loop-again c = (omega arith, omega arith, simp length-set (omega arith), omega arith, c .before .before .loop .inv .4 ∙ sets-drop _ _ _ _ (c .before .loop-test .taken))
 
 returns-3 : tie.Need-returns-3 Inv-loop μ-loop
-returns-3 c =
-    (
-      sym (after-whole _ _ _ (c .before .loop .inv .3) ∙ omega arith),
-      sym (stored-whole _ _ _ (c .before .loop .inv .3) ∙ rw (c .before .loop .inv .4, drop-of-length-le _ (c .loop-test .left))),
-    )
+returns-3 c = (
+  sym (after-whole _ _ _ (c .before .loop .inv .3) ∙ omega arith),
+  sym (stored-whole _ _ _ (c .before .loop .inv .3) ∙ rw (c .before .loop .inv .4, drop-of-length-le _ (c .loop-test .left))),
+)
 
 pub copy-spec : {M : Type 1} → statement M
 copy-spec =

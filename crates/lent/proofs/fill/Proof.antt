@@ -20,21 +20,19 @@ returns : tie.Need-returns Inv-loop μ-loop
 returns c = (sym (after-none _ _ _ (omega arith)), sym (stored-none _ _ _ (omega arith)))
 
 returns-2 : tie.Need-returns-2 Inv-loop μ-loop
-returns-2 c =
-    (
-      sym (after-none _ _ _ (rw (length-replicate _ _) (omega arith))),
-      sym (stored-none _ _ _ (rw (length-replicate _ _) (omega arith))),
-    )
+returns-2 c = (
+  sym (after-none _ _ _ (rw (length-replicate _ _) (omega arith))),
+  sym (stored-none _ _ _ (rw (length-replicate _ _) (omega arith))),
+)
 
 loop-again : tie.Need-loop-again Inv-loop μ-loop
 loop-again c = (omega arith, simp length-set (omega arith), c .before .loop .inv .2, c .before .loop .inv .3 ∙ sets-fill _ _ _ _ (c .loop-test .taken))
 
 returns-3 : tie.Need-returns-3 Inv-loop μ-loop
-returns-3 c =
-    (
-      sym (after-whole _ _ _ (c .before .loop .inv .2) ∙ rw (length-replicate _ _) (omega arith)),
-      sym (stored-whole _ _ _ (c .before .loop .inv .2) ∙ c .before .loop .inv .3 ∙ sets-none _ _ _ _ (c .loop-test .left)),
-    )
+returns-3 c = (
+  sym (after-whole _ _ _ (c .before .loop .inv .2) ∙ rw (length-replicate _ _) (omega arith)),
+  sym (stored-whole _ _ _ (c .before .loop .inv .2) ∙ c .before .loop .inv .3 ∙ sets-none _ _ _ _ (c .loop-test .left)),
+)
 
 pub fill-spec : {M : Type 1} → statement M
 fill-spec =

@@ -1,0 +1,15 @@
+-- The code's tests are the definition's, with the sum's bound as a difference.
+use borrow.Author.Needs.{needs}
+use Rattle.position.proofs.Sums.{no-column, columns-pass, columns-fit}
+use Rattle.position.proofs.sum_on.Statement.{statement}
+use Rattle.position.proofs.sum_on.Tie as tie
+
+pub sum-on-spec : {M : Type 1} → statement M
+sum-on-spec = tie.close
+    (tie.spec
+    (λ c. search no-column)
+    (λ c. search needs)
+    (λ c. search columns-pass)
+    (λ c. search needs)
+    (λ c. search needs)
+    (λ c. search columns-fit))
