@@ -1,0 +1,37 @@
+-- The cursor, which stands in for the Rust's InputStream: `peek_next`, `get_next`, `eat_next_and_advance`, and one character further ahead.
+use Prim.Native.Nat.{ℕ, _+_}
+use mathlib.Core.List.{List}
+use Rattle.position.specs.declared.Position.{Position}
+use Rattle.position.specs.Place.{advanced}
+use Rattle.utf8.specs.Table.{lookAt}
+use Rattle.utf8.specs.declared.Look.{Look}
+use Rattle.utf8.specs.declared.Look.the-variants as look
+use Rattle.chars.specs.declared.cursor.Cursor.{Cursor}
+use Rattle.chars.specs.declared.cursor.Taken.{Taken}
+use Rattle.chars.specs.declared.cursor.Taken.the-variants as taken
+
+-- the cursor at an offset and a place
+abbrev pub cursor : ℕ → Position → Cursor
+cursor n p = record { at = n; place = p }
+
+-- a character found at an offset is taken, and the place is then p
+abbrev pub takenOn : ℕ → Position → Look → Taken
+takenOn at p (look.Char c w) = taken.Char c (cursor (at + w) p)
+takenOn at p look.End = taken.End
+
+-- the character behind the one found at an offset
+abbrev pub behind : List ℕ → ℕ → Look → Look
+behind t at (look.Char c w) = lookAt t (at + w)
+behind t at look.End = look.End
+
+-- the character after the next one
+unfoldable pub peekAfterOf : List ℕ → Cursor → Look
+peekAfterOf t c = behind t (c .at) (lookAt t (c .at))
+
+-- the next character taken, the place as it was
+unfoldable pub getNextOf : List ℕ → Cursor → Taken
+getNextOf t c = takenOn (c .at) (c .place) (lookAt t (c .at))
+
+-- the next character taken, one column on
+unfoldable pub eatNextOf : List ℕ → Cursor → Taken
+eatNextOf t c = takenOn (c .at) (advanced (c .place)) (lookAt t (c .at))

@@ -1,0 +1,62 @@
+// The cursor: an offset and a place by value, over a text that is lent at each call. Whoever looks
+// ahead takes from a copy, so there is nothing to unget.
+ghost use mathlib.Core.Path.{_≡_};
+ghost use Rattle.utf8.specs.Table.{lookAt};
+ghost use Rattle.chars.specs.Cursors.{peekAfterOf, getNextOf, eatNextOf};
+use position::Position;
+use utf8::Look;
+
+pub struct Cursor {
+    pub at: usize,
+    pub place: Position,
+}
+
+// A character that was taken, with the cursor behind it.
+pub enum Taken {
+    Char(u32, Cursor),
+    End,
+}
+
+impl Cursor {
+    // The next character, not taken.
+    pub fn peek_next(self, text: &[u8]) -> Look
+        ensures { λ r. ⌜ r ≡ lookAt (now (text .entry)) (self .at) ⌝ }
+    {
+        utf8::look_at(text, self.at)
+    }
+
+    // The character after the next one, not taken.
+    pub fn peek_after(self, text: &[u8]) -> Look
+        ensures { λ r. ⌜ r ≡ peekAfterOf (now (text .entry)) self ⌝ }
+    {
+        let at = self.at;
+        let Look::Char(_, w) = utf8::look_at(text, at) else {
+            return Look::End;
+        };
+        utf8::look_at(text, at + w)
+    }
+
+    // Takes the next character. The place stays.
+    pub fn get_next(self, text: &[u8]) -> Taken
+        ensures { λ r. ⌜ r ≡ getNextOf (now (text .entry)) self ⌝ }
+    {
+        let at = self.at;
+        let place = self.place;
+        let Look::Char(c, w) = utf8::look_at(text, at) else {
+            return Taken::End;
+        };
+        Taken::Char(c, Cursor { at: at + w, place })
+    }
+
+    // Takes the next character, and one column.
+    pub fn eat_next_and_advance(self, text: &[u8]) -> Taken
+        ensures { λ r. ⌜ r ≡ eatNextOf (now (text .entry)) self ⌝ }
+    {
+        let Taken::Char(c, next) = self.get_next(text) else {
+            return Taken::End;
+        };
+        let at = next.at;
+        let place = next.place.advanced();
+        Taken::Char(c, Cursor { at, place })
+    }
+}

@@ -1,0 +1,122 @@
+// Classes of characters: White_Space, and the ASCII classes that the Rust asks for.
+ghost use mathlib.Core.Path.{_≡_};
+ghost use Rattle.classes.specs.Class.{isNumericDigit, isIdFirstAlphabetic, isIdContinue, digitOf};
+ghost use Rattle.classes.specs.White.{isWhite, among, whites};
+ghost use Rattle.utf8.specs.Table.{_‥_, within};
+
+// The code points from the first to the last.
+struct Entry(u32, u32);
+
+// White_Space as the property file prints it.
+const WHITE_SPACE: [Entry; 11] = [
+    Entry(0x0009, 0x000D),
+    Entry(0x0020, 0x0020),
+    Entry(0x0085, 0x0085),
+    Entry(0x00A0, 0x00A0),
+    Entry(0x1680, 0x1680),
+    Entry(0x2000, 0x200A),
+    Entry(0x2028, 0x2028),
+    Entry(0x2029, 0x2029),
+    Entry(0x202F, 0x202F),
+    Entry(0x205F, 0x205F),
+    Entry(0x3000, 0x3000),
+];
+
+// Whether a character is white. Nearly all characters of a script are ASCII, so these are told
+// apart before the table is asked.
+pub fn is_white(c: u32) -> bool
+    ensures { λ r. ⌜ r ≡ isWhite c ⌝ }
+{
+    if c < 0x09 {
+        return false;
+    }
+    if c < 0x0E {
+        return true;
+    }
+    if c < 0x20 {
+        return false;
+    }
+    if c < 0x21 {
+        return true;
+    }
+    if c < 0x85 {
+        return false;
+    }
+    is_listed(c)
+}
+
+fn is_listed(c: u32) -> bool
+    ensures { λ r. ⌜ r ≡ isWhite c ⌝ }
+{
+    let table = WHITE_SPACE;
+    let mut i = 0;
+    while i < 11 {
+        let entry = table[i];
+        if is_within(entry.0, entry.1, c) {
+            return true;
+        }
+        i += 1;
+    }
+    false
+}
+
+fn is_within(low: u32, high: u32, c: u32) -> bool
+    ensures { λ r. ⌜ r ≡ within (low ‥ high) c ⌝ }
+{
+    if low <= c {
+        if c <= high {
+            return true;
+        }
+        return false;
+    }
+    false
+}
+
+// The Rust's `is_numeric_digit`.
+pub fn is_numeric_digit(c: u32) -> bool
+    ensures { λ r. ⌜ r ≡ isNumericDigit c ⌝ }
+{
+    is_within(0x30, 0x39, c)
+}
+
+// The Rust's `is_id_first_alphabetic`: an ASCII letter.
+pub fn is_id_first_alphabetic(c: u32) -> bool
+    ensures { λ r. ⌜ r ≡ isIdFirstAlphabetic c ⌝ }
+{
+    if is_within(0x41, 0x5A, c) {
+        return true;
+    }
+    is_within(0x61, 0x7A, c)
+}
+
+// The Rust's `is_id_continue`: an ASCII letter, digit or underscore.
+pub fn is_id_continue(c: u32) -> bool
+    ensures { λ r. ⌜ r ≡ isIdContinue c ⌝ }
+{
+    if is_id_first_alphabetic(c) {
+        return true;
+    }
+    if is_numeric_digit(c) {
+        return true;
+    }
+    if c == 0x5F {
+        return true;
+    }
+    false
+}
+
+// The Rust's `to_digit(16)`: the value of a hex digit, and 16 for what is none.
+pub fn to_digit(c: u32) -> u32
+    ensures { λ r. ⌜ r ≡ digitOf c ⌝ }
+{
+    if is_within(0x30, 0x39, c) {
+        return c - 0x30;
+    }
+    if is_within(0x41, 0x46, c) {
+        return c - 0x37;
+    }
+    if is_within(0x61, 0x66, c) {
+        return c - 0x57;
+    }
+    16
+}

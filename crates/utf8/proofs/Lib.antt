@@ -1,0 +1,11 @@
+pub mod Encodes
+pub mod Ranges
+pub mod Digits
+pub mod Rows
+pub mod Decodes
+pub mod Finds
+pub mod Leads
+pub mod Laws
+pub mod Edges
+pub mod Puts
+pub mod Unicode

@@ -1,0 +1,4 @@
+pub mod Table
+pub mod Encode
+pub mod Lead
+pub mod Unicode

@@ -1,0 +1,216 @@
+// UTF-8: the character at an offset of a text lent as bytes, whether a text is well formed, where characters begin, and a character's bytes. The leaf that alone knows about bytes.
+ghost use mathlib.Core.Path.{_≡_};
+ghost use Prim.Native.Nat.{_+_, _≤_, _<_};
+ghost use lib.ListN.{length, drop};
+ghost use lib.Seq.{sets};
+ghost use Rattle.basis.specs.Store.{stored, after};
+ghost use Rattle.utf8.specs.Table.{lookAt, well, boundary};
+ghost use Rattle.utf8.specs.Encode.{isScalar, encode, encoded};
+ghost use Rattle.utf8.specs.Lead.{leadOf, restOf, nextIn};
+
+// The character that begins at an offset: its code point and its width in bytes; End where none does.
+pub enum Look {
+    Char(u32, usize),
+    End,
+}
+
+// What a first byte says: its row's lowest code point, the byte counted from the low end of its range, the second byte's
+// range, and how many bytes follow that one; or that no longer character begins with it.
+enum Lead {
+    Opens(u32, u32, u32, u32, usize),
+    No,
+}
+
+// A further byte counted from the low end of its range, or that it is out of it.
+enum Next {
+    Step(u32),
+    Out,
+}
+
+// The rows of Table 3-7 but the first, each found by where the next one begins.
+fn lead_of(a: u32) -> Lead
+    ensures { λ r. ⌜ r ≡ leadOf a ⌝ }
+{
+    if a < 0xC2 {
+        return Lead::No;
+    }
+    if a < 0xE0 {
+        return Lead::Opens(0x80, a - 0xC2, 0x80, 0xBF, 0);
+    }
+    if a < 0xE1 {
+        return Lead::Opens(0x800, a - 0xE0, 0xA0, 0xBF, 1);
+    }
+    if a < 0xED {
+        return Lead::Opens(0x1000, a - 0xE1, 0x80, 0xBF, 1);
+    }
+    if a < 0xEE {
+        return Lead::Opens(0xD000, a - 0xED, 0x80, 0x9F, 1);
+    }
+    if a < 0xF0 {
+        return Lead::Opens(0xE000, a - 0xEE, 0x80, 0xBF, 1);
+    }
+    if a < 0xF1 {
+        return Lead::Opens(0x10000, a - 0xF0, 0x90, 0xBF, 2);
+    }
+    if a < 0xF4 {
+        return Lead::Opens(0x40000, a - 0xF1, 0x80, 0xBF, 2);
+    }
+    if a < 0xF5 {
+        return Lead::Opens(0x100000, a - 0xF4, 0x80, 0x8F, 2);
+    }
+    Lead::No
+}
+
+fn next_in(text: &[u8], at: usize, low: u32, high: u32) -> Next
+    ensures { λ r. ⌜ r ≡ nextIn low high (drop at (now (text .entry))) ⌝ }
+{
+    if at < text.len() {
+        let b = text[at] as u32;
+        if low <= b {
+            if b <= high {
+                return Next::Step(b - low);
+            }
+        }
+    }
+    Next::Out
+}
+
+// What the bytes after the first one, a, make of it: the second has a range of its own, all others 80..BF.
+fn longer(text: &[u8], at: usize, a: u32) -> Look
+    requires { ⌜ at < length (now text) ⌝ }
+    ensures { λ r. ⌜ r ≡ restOf (leadOf a) (drop (at + 1) (now (text .entry))) ⌝ }
+{
+    let Lead::Opens(from, start, first, last, more) = lead_of(a) else {
+        return Look::End;
+    };
+    let mut v = start;
+    let mut low = first;
+    let mut high = last;
+    let mut i = 0;
+    while i <= more {
+        let Next::Step(b) = next_in(text, at + 1 + i, low, high) else {
+            return Look::End;
+        };
+        v = v * 64 + b;
+        low = 0x80;
+        high = 0xBF;
+        i += 1;
+    }
+    Look::Char(from + v, more + 2)
+}
+
+// The character at an offset; End also past the end.
+pub fn look_at(text: &[u8], at: usize) -> Look
+    ensures { λ r. ⌜ r ≡ lookAt (now (text .entry)) at ⌝ }
+{
+    if text.len() <= at {
+        return Look::End;
+    }
+    let a = text[at] as u32;
+    if a < 0x80 {
+        return Look::Char(a, 1);
+    }
+    longer(text, at, a)
+}
+
+// Whether a text is UTF-8.
+pub fn check(text: &[u8]) -> bool
+    ensures { λ r. ⌜ r ≡ well (now (text .entry)) ⌝ }
+{
+    let mut at = 0;
+    while at < text.len() {
+        let Look::Char(_, w) = look_at(text, at) else {
+            return false;
+        };
+        at += w;
+    }
+    true
+}
+
+// Whether a character of a well-formed text begins at an offset, or the text ends there: one byte tells.
+pub fn is_boundary(text: &[u8], at: usize) -> bool
+    ensures { λ r. ⌜ r ≡ boundary (now (text .entry)) at ⌝ }
+{
+    if at < text.len() {
+        let b = text[at];
+        if b < 0x80 {
+            return true;
+        }
+        return 0xBF < b;
+    }
+    at == text.len()
+}
+
+// Whether a number is a scalar value, as `char::from_u32` asks.
+pub fn is_scalar(c: u32) -> bool
+    ensures { λ r. ⌜ r ≡ isScalar c ⌝ }
+{
+    if c < 0xD800 {
+        return true;
+    }
+    if 0xE000 <= c {
+        return c < 0x110000;
+    }
+    false
+}
+
+// How many bytes a scalar value's encoding has.
+fn size(c: u32) -> usize
+    ensures { λ r. ⌜ r ≡ length (encode c) ⌝ }
+{
+    if c < 0x80 {
+        return 1;
+    }
+    if c < 0x800 {
+        return 2;
+    }
+    if c < 0x10000 {
+        return 3;
+    }
+    4
+}
+
+// The encoding written where there is room for it; the index after it.
+fn write(c: u32, out: &mut [u8], at: usize) -> usize
+    requires { ⌜ (c < 0x110000) × (at + length (encode c) ≤ length (now out)) ⌝ }
+    ensures { λ r. ⌜ (r ≡ at + length (encode c)) × (now (out .exit) ≡ sets (now (out .entry)) at (encode c)) ⌝ }
+{
+    if c < 0x80 {
+        out[at] = c as u8;
+        return at + 1;
+    }
+    if c < 0x800 {
+        out[at] = (0xC0 + c / 64) as u8;
+        out[at + 1] = (0x80 + c % 64) as u8;
+        return at + 2;
+    }
+    if c < 0x10000 {
+        out[at] = (0xE0 + c / 64 / 64) as u8;
+        out[at + 1] = (0x80 + c / 64 % 64) as u8;
+        out[at + 2] = (0x80 + c % 64) as u8;
+        return at + 3;
+    }
+    out[at] = (0xF0 + c / 64 / 64 / 64) as u8;
+    out[at + 1] = (0x80 + c / 64 / 64 % 64) as u8;
+    out[at + 2] = (0x80 + c / 64 % 64) as u8;
+    out[at + 3] = (0x80 + c % 64) as u8;
+    at + 4
+}
+
+// The encoding of a scalar value written at an index where it fits, and the index after it. Where it does not fit, or for a
+// number that is no scalar value, nothing is written, and the index is the one given.
+pub fn put(c: u32, out: &mut [u8], at: usize) -> usize
+    ensures { λ r. ⌜ r ≡ after (now (out .entry)) at (encoded c) ⌝ }
+    ensures { λ r. ⌜ now (out .exit) ≡ stored (now (out .entry)) at (encoded c) ⌝ }
+{
+    if is_scalar(c) {
+        if out.len() < at {
+            return at;
+        }
+        if out.len() - at < size(c) {
+            return at;
+        }
+        return write(c, &mut *out, at);
+    }
+    at
+}
