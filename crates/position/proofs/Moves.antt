@@ -24,14 +24,9 @@ use Rattle.position.specs.Place.{
   advanced,
   lined,
   rewound,
-  moved,
   newOf,
-  advanceOf,
-  newLineOf,
-  rewindOf,
 }
 use Rattle.position.specs.declared.Position.{Position}
-use Rattle.position.specs.declared.Placed.{Placed}
 use Rattle.position.specs.declared.Placed.the-variants.{At, Refused}
 use Rattle.position.specs.declared.Coordinate.{Coordinate}
 use Rattle.position.specs.declared.Coordinate.the-variants.{Some, None}
@@ -74,10 +69,6 @@ both-yes : (a : Bool) → both a true ≡ a
 both-yes true = refl
 both-yes false = refl
 
-pick-same : (a : Bool) (x : Placed) → pick a x x ≡ x
-pick-same true x = refl
-pick-same false x = refl
-
 up-some : (n : ℕ) → up n ≡ 0 → ⊥
 unfolding up
 up-some n h = omega arith
@@ -111,45 +102,15 @@ module _ (p : Position) where
   unfolding onLine rewound
   rewound-on = refl
 
-  -- the moves of a place on a line
+  -- a place on a line
   module _ (h : onLine p ≡ true) where
     pub on-some : isNone p ≡ false
     unfolding onLine isNone
     on-some = isnt-both (eqb (p .line) 0) (eqb (p .pos) 0) h
 
-    pub advances : advanceOf p ≡ At (advanced p)
-    unfolding advanceOf moved
-    advances = rw h
-
-    pub starts-line : newLineOf p ≡ At (lined p)
-    unfolding newLineOf moved
-    starts-line = rw h
-
-    column-zero : beginsLine p ≡ eqb (p .pos) 0
+    pub column-zero : beginsLine p ≡ eqb (p .pos) 0
     unfolding beginsLine
     column-zero = rw on-some (both-yes (eqb (p .pos) 0))
-
-    pub rewinds : beginsLine p ≡ false → rewindOf p ≡ At (rewound p)
-    unfolding rewindOf moved
-    rewinds g = rw (sym column-zero ∙ g, h)
-
-    pub begins-refused : beginsLine p ≡ true → rewindOf p ≡ Refused 3
-    unfolding rewindOf
-    begins-refused g = rw (sym column-zero ∙ g)
-
-  -- and of one on line 0
-  module _ (h : onLine p ≡ false) where
-    pub advance-refused : advanceOf p ≡ Refused 3
-    unfolding advanceOf moved
-    advance-refused = rw h
-
-    pub new-line-refused : newLineOf p ≡ Refused 3
-    unfolding newLineOf moved
-    new-line-refused = rw h
-
-    pub rewind-refused : rewindOf p ≡ Refused 3
-    unfolding rewindOf moved
-    rewind-refused = rw h (pick-same (eqb (p .pos) 0) (Refused 3))
 
   -- the moves in numbers
   pub advanced-line : unwrapOr (lineOf (advanced p)) 0 ≡ unwrapOr (lineOf p) 0

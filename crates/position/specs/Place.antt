@@ -79,22 +79,6 @@ lined p = place (up (p .line)) 0
 unfoldable pub rewound : Position → Position
 rewound p = place (p .line) (p .pos - 1)
 
--- a move from one place to another: on line 0 it is 3
-unfoldable pub moved : Position → Position → Placed
-moved p q = pick (onLine p) (At q) (Refused 3)
-
 -- the Rust's `new`: line 0 is 3
 unfoldable pub newOf : ℕ → ℕ → Placed
 newOf l c = pick (eqb l 0) (Refused 3) (At (given l c))
-
--- the Rust's `advance`
-unfoldable pub advanceOf : Position → Placed
-advanceOf p = moved p (advanced p)
-
--- the Rust's `new_line`
-unfoldable pub newLineOf : Position → Placed
-newLineOf p = moved p (lined p)
-
--- the Rust's `rewind`: at column 0 it is 3 too
-unfoldable pub rewindOf : Position → Placed
-rewindOf p = pick (eqb (p .pos) 0) (Refused 3) (moved p (rewound p))

@@ -1,4 +1,4 @@
-// Places in a script, a line and a column of at most 65,535 each, and spans between two of them: types/position.rs without its words.
+// Places in a script, a line and a column of at most 65,535 each: the type Position of types/position.rs, its sum, and its moves for the scanners.
 ghost use Prim.Native.Nat.{_-_, _≤_};
 ghost use mathlib.Core.Path.{_≡_};
 ghost use Rattle.position.specs.Place.{
@@ -15,14 +15,9 @@ ghost use Rattle.position.specs.Place.{
   lineOf,
   positionOf,
   orElse,
-  moved,
   newOf,
-  advanceOf,
-  rewindOf,
-  newLineOf,
 };
 ghost use Rattle.position.specs.Sum.{sumOn, sumOf};
-ghost use Rattle.position.specs.Span.{newSpan, isNoSpan, startOf, endOf};
 
 pub struct Position {
     // 0 is no line.
@@ -79,16 +74,6 @@ fn numbered(p: Position, n: u16) -> Coordinate
     }
 }
 
-// A move, which no place on line 0 makes: the Rust refuses only NONE.
-fn moved(p: Position, to: Position) -> Placed
-    ensures { λ r. ⌜ r ≡ moved p to ⌝ }
-{
-    if p.line == 0 {
-        return Placed::Refused(3);
-    }
-    Placed::At(to)
-}
-
 // The sum of two columns, on the line that the sum has.
 fn sum_on(line: u16, c: u16, d: u16) -> Placed
     ensures { λ r. ⌜ r ≡ sumOn line c d ⌝ }
@@ -142,27 +127,6 @@ impl Position {
             return Coordinate::None;
         }
         numbered(self, self.pos)
-    }
-
-    pub fn advance(self) -> Placed
-        ensures { λ r. ⌜ r ≡ advanceOf self ⌝ }
-    {
-        moved(self, self.advanced())
-    }
-
-    pub fn rewind(self) -> Placed
-        ensures { λ r. ⌜ r ≡ rewindOf self ⌝ }
-    {
-        if self.pos == 0 {
-            return Placed::Refused(3);
-        }
-        moved(self, self.rewound())
-    }
-
-    pub fn new_line(self) -> Placed
-        ensures { λ r. ⌜ r ≡ newLineOf self ⌝ }
-    {
-        moved(self, self.lined())
     }
 
     pub fn is_beginning_of_line(self) -> bool
@@ -247,44 +211,5 @@ impl Position {
             line: self.line,
             pos: down(self.pos),
         }
-    }
-}
-
-pub struct Span {
-    start: Position,
-    end: Position,
-}
-
-impl Span {
-    pub const NONE: Self = Self {
-        start: Position::NONE,
-        end: Position::NONE,
-    };
-
-    pub fn new(start: Position, end: Position) -> Self
-        ensures { λ r. ⌜ r ≡ newSpan start end ⌝ }
-    {
-        Self { start, end }
-    }
-
-    pub fn is_none(self) -> bool
-        ensures { λ r. ⌜ r ≡ isNoSpan self ⌝ }
-    {
-        if self.start.is_none() {
-            return self.end.is_none();
-        }
-        false
-    }
-
-    pub fn start(self) -> Position
-        ensures { λ r. ⌜ r ≡ startOf self ⌝ }
-    {
-        self.start
-    }
-
-    pub fn end(self) -> Position
-        ensures { λ r. ⌜ r ≡ endOf self ⌝ }
-    {
-        self.end
     }
 }

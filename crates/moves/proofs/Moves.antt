@@ -1,0 +1,47 @@
+-- What a move answers of a place on a line, and of one on line 0. Assumes nothing.
+use Prim.Native.Nat.{ℕ}
+use mathlib.Core.Bool.{Bool, true, false}
+use mathlib.Core.Path.{_≡_, refl}
+use lib.Dec.{eqb}
+use borrow.Author.Tests.{eq-eqb, ne-eqb}
+use Rattle.basis.specs.Pick.{pick}
+use Rattle.position.specs.Place.{onLine, unwrapOr, positionOf, advanced, lined, rewound}
+use Rattle.position.specs.declared.Position.{Position}
+use Rattle.position.specs.declared.Placed.{Placed}
+use Rattle.position.specs.declared.Placed.the-variants.{At, Refused}
+use Rattle.moves.specs.Moves.{moved, advanceOf, newLineOf, rewindOf}
+
+pick-same : (a : Bool) (x : Placed) → pick a x x ≡ x
+pick-same true x = refl
+pick-same false x = refl
+
+module _ (p : Position) where
+  module _ (h : onLine p ≡ true) where
+    pub advances : advanceOf p ≡ At (advanced p)
+    unfolding advanceOf moved
+    advances = rw h
+
+    pub starts-line : newLineOf p ≡ At (lined p)
+    unfolding newLineOf moved
+    starts-line = rw h
+
+    pub rewinds : (unwrapOr (positionOf p) 0 ≡ 0 → ⊥) → rewindOf p ≡ At (rewound p)
+    unfolding rewindOf moved
+    rewinds n = rw (ne-eqb (unwrapOr (positionOf p) 0) 0 n, h)
+
+  pub begins-refused : unwrapOr (positionOf p) 0 ≡ 0 → rewindOf p ≡ Refused 3
+  unfolding rewindOf
+  begins-refused z = rw (eq-eqb (unwrapOr (positionOf p) 0) 0 z)
+
+  module _ (h : onLine p ≡ false) where
+    pub advance-refused : advanceOf p ≡ Refused 3
+    unfolding advanceOf moved
+    advance-refused = rw h
+
+    pub new-line-refused : newLineOf p ≡ Refused 3
+    unfolding newLineOf moved
+    new-line-refused = rw h
+
+    pub rewind-refused : rewindOf p ≡ Refused 3
+    unfolding rewindOf moved
+    rewind-refused = rw h (pick-same (eqb (unwrapOr (positionOf p) 0) 0) (Refused 3))

@@ -1,0 +1,24 @@
+-- Moves with document 01's refusals: "Moving a place on line 0, or rewinding at column 0, is 3; the Rust panics".
+use Prim.Native.Nat.{ℕ}
+use lib.Dec.{eqb}
+use Rattle.basis.specs.Pick.{pick}
+use Rattle.position.specs.Place.{onLine, unwrapOr, positionOf, advanced, lined, rewound}
+use Rattle.position.specs.declared.Position.{Position}
+use Rattle.position.specs.declared.Placed.{Placed}
+use Rattle.position.specs.declared.Placed.the-variants.{At, Refused}
+
+-- a move from one place to another: on line 0 it is 3
+unfoldable pub moved : Position → Position → Placed
+moved p q = pick (onLine p) (At q) (Refused 3)
+
+-- the Rust's `advance`
+unfoldable pub advanceOf : Position → Placed
+advanceOf p = moved p (advanced p)
+
+-- the Rust's `new_line`
+unfoldable pub newLineOf : Position → Placed
+newLineOf p = moved p (lined p)
+
+-- the Rust's `rewind`: at column 0 it is 3 too
+unfoldable pub rewindOf : Position → Placed
+rewindOf p = pick (eqb (unwrapOr (positionOf p) 0) 0) (Refused 3) (moved p (rewound p))

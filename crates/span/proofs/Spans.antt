@@ -1,0 +1,27 @@
+-- Spans in and out, for crates above that never look inside one.
+-- Assumes nothing.
+use mathlib.Core.Bool.{true, false}
+use mathlib.Core.Path.{_≡_, refl}
+use Rattle.position.specs.Place.{none, isNone}
+use Rattle.span.specs.Spans.{newSpan, noSpan, startOf, endOf, isNoSpan}
+use Rattle.position.specs.declared.Position.{Position}
+use Rattle.span.specs.declared.Span.{Span}
+
+module _ (a b : Position) where
+  pub start-new : startOf (newSpan a b) ≡ a
+  unfolding startOf newSpan
+  start-new = refl
+
+  pub end-new : endOf (newSpan a b) ≡ b
+  unfolding endOf newSpan
+  end-new = refl
+
+-- a span is its two places
+pub new-whole : (s : Span) → newSpan (startOf s) (endOf s) ≡ s
+unfolding startOf endOf newSpan
+new-whole s = refl
+
+-- no span is none
+pub no-span : isNoSpan noSpan ≡ true
+unfolding isNoSpan noSpan newSpan none isNone
+no-span = refl
