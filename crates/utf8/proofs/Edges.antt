@@ -16,14 +16,14 @@ use Rattle.basis.proofs.Bounds.{split}
 use Rattle.basis.proofs.Bytes.{past}
 use Rattle.basis.proofs.Cases.{not-both}
 use Rattle.utf8.specs.Table.{_‥_, within, look, lookAt, Ch, chars, charsAt, well, edge, boundary}
-use Rattle.utf8.specs.declared.Look.{Look}
+use Rattle.utf8.specs.Unicode.{Boundary-exactly}
 use Rattle.utf8.specs.declared.Look.the-variants.{Char, End}
 use Rattle.utf8.proofs.Ranges.{is-within, is-below, is-above}
 use Rattle.utf8.proofs.Decodes.{look-reads}
-use Rattle.utf8.proofs.Laws.{look-width, at-width, chars-start, chars-end, well-char, well-end, edge-zero, edge-end, edge-inside, edge-char}
+use Rattle.utf8.proofs.Laws.{by-chars, look-width, at-width, chars-start, chars-end, well-char, well-end, edge-zero, edge-end, edge-inside, edge-char}
 
 -- ---- boundaries
-pub boundary-byte : (s : List ℕ) (n : ℕ) → n < length s → boundary s n ≡ isnt (within (0x80 ‥ 0xBF) (getD s n 0))
+boundary-byte : (s : List ℕ) (n : ℕ) → n < length s → boundary s n ≡ isnt (within (0x80 ‥ 0xBF) (getD s n 0))
 unfolding boundary
 boundary-byte s n h = rw (lt-ltb n (length s) h)
 
@@ -31,12 +31,15 @@ pub boundary-past : (s : List ℕ) (n : ℕ) → length s ≤ n → boundary s n
 unfolding boundary
 boundary-past s n h = rw (le-ltb n (length s) h)
 
--- a byte that is not 80..BF: below it or above it
-pub byte-below : (b : ℕ) → b < 0x80 → isnt (within (0x80 ‥ 0xBF) b) ≡ true
-byte-below b h = ap isnt (is-below (0x80 ‥ 0xBF) b h)
+-- a byte below 80 is one; any other, if it is above BF
+pub boundary-low : (s : List ℕ) (n : ℕ) → n < length s → getD s n 0 < 0x80 → boundary s n ≡ true
+boundary-low s n h g = boundary-byte s n h ∙ ap isnt (is-below (0x80 ‥ 0xBF) (getD s n 0) g)
 
-pub byte-above : (b : ℕ) → 0x80 ≤ b → isnt (within (0x80 ‥ 0xBF) b) ≡ ltb 0xBF b
-byte-above b h = ⊎-elim (λ g. rw (is-above (0x80 ‥ 0xBF) b g, lt-ltb 0xBF b g)) (λ g. rw (is-within (0x80 ‥ 0xBF) b h g, le-ltb 0xBF b g)) (split 0xBF b)
+pub boundary-high : (s : List ℕ) (n : ℕ) → n < length s → 0x80 ≤ getD s n 0 → boundary s n ≡ ltb 0xBF (getD s n 0)
+boundary-high s n h g = boundary-byte s n h ∙ above (getD s n 0) g
+  where
+    above : (b : ℕ) → 0x80 ≤ b → isnt (within (0x80 ‥ 0xBF) b) ≡ ltb 0xBF b
+    above b l = ⊎-elim (λ k. rw (is-above (0x80 ‥ 0xBF) b k, lt-ltb 0xBF b k)) (λ k. rw (is-within (0x80 ‥ 0xBF) b l k, le-ltb 0xBF b k)) (split 0xBF b)
 
 -- past the bytes of a character, a boundary is one of the rest
 boundary-drop : (s : List ℕ) (w n : ℕ) → w ≤ n → w ≤ length s → boundary s n ≡ boundary (drop w s) (n - w)
@@ -63,19 +66,7 @@ module _ (s : List ℕ) {c w : ℕ} (e : look s ≡ Char c w) where
   boundary-inside : (n : ℕ) → 0 < n → n < w → boundary s n ≡ false
   boundary-inside n h g = let k = look-width s e in boundary-byte s n (omega arith) ∙ ap isnt (look-reads s e .inner n h g)
 
--- ---- proofs by characters
--- what holds where no character begins, and before a character if after it, holds everywhere
-pub by-chars : (s : List ℕ) (P : ℕ → Type 0) → ((at : ℕ) → lookAt s at ≡ End → P at) → ((at c w : ℕ) → lookAt s at ≡ Char c w → P (at + w) → P at) → (at : ℕ) → P at
-by-chars s P ended char at = go (length s) at (omega arith)
-  where
-    on : (at : ℕ) (x : Look) → lookAt s at ≡ x → ((c w : ℕ) → lookAt s at ≡ Char c w → P (at + w)) → P at
-    on at (Char c w) e rest = char at c w e (rest c w e)
-    on at End e rest = ended at e
-
-    go : (m at : ℕ) → length s ≤ at + m → P at
-    go zero at h = on at (lookAt s at) refl (λ c w e. absurd (omega (arith, at-width s at e)))
-    go (suc m) at h = on at (lookAt s at) refl (λ c w e. go m (at + w) (omega (arith, at-width s at e)))
-
+-- ---- a proof by edges
 -- what holds at the start, and after a character if before it, holds at every edge
 pub by-edges : (s : List ℕ) (P : ℕ → Type 0) → P 0 → ((at c w : ℕ) → lookAt s at ≡ Char c w → P at → P (at + w)) → (at : ℕ) → edge (chars s) at ≡ true → P at
 by-edges s P start char at e =
@@ -117,7 +108,7 @@ boundary-from s = by-chars s (λ at. well (drop at s) ≡ true → (n : ℕ) →
         ∙ sym (edge-char s at (suc m) z (omega arith) l))
         (split (suc m) w)
 
-pub boundary-edge : (s : List ℕ) (at : ℕ) → well s ≡ true → boundary s at ≡ edge (chars s) at
+pub boundary-edge : Boundary-exactly
 boundary-edge s at e = boundary-from s 0 e at ∙ ap (λ (l : List Ch). edge l at) (chars-start s)
 
 -- ---- edges of the whole text

@@ -10,6 +10,7 @@ use lib.Seq.{drop-drop}
 use borrow.Author.Tests.{ne-eqb, lt-ltb, le-ltb}
 use Rattle.basis.proofs.Bytes.{past}
 use Rattle.utf8.specs.Table.{look, lookAt, Ch, ch, charsFrom, chars, charsAt, wellFrom, well, edge}
+use Rattle.utf8.specs.declared.Look.{Look}
 use Rattle.utf8.specs.declared.Look.the-variants.{Char, End}
 use Rattle.utf8.proofs.Encodes.{size-bounds}
 use Rattle.utf8.proofs.Decodes.{no-end, look-reads}
@@ -27,6 +28,23 @@ unfolding lookAt
 at-width s at {c} {w} e =
     let h = look-width (drop at s) e in
     (h .0, omega (arith, length-drop at s), h .2)
+
+-- none begins past the end
+pub look-past : (s : List ℕ) (at : ℕ) → length s ≤ at → lookAt s at ≡ End
+unfolding look lookAt
+look-past s at h = rw (past s at h)
+
+-- ---- a proof by characters: what holds where no character begins, and before a character if after it, holds everywhere
+pub by-chars : (s : List ℕ) (P : ℕ → Type 0) → ((at : ℕ) → lookAt s at ≡ End → P at) → ((at c w : ℕ) → lookAt s at ≡ Char c w → P (at + w) → P at) → (at : ℕ) → P at
+by-chars s P ended char at = go (length s) at (omega arith)
+  where
+    on : (at : ℕ) (x : Look) → lookAt s at ≡ x → ((c w : ℕ) → lookAt s at ≡ Char c w → P (at + w)) → P at
+    on at (Char c w) e rest = char at c w e (rest c w e)
+    on at End e rest = ended at e
+
+    go : (m at : ℕ) → length s ≤ at + m → P at
+    go zero at h = on at (lookAt s at) refl (λ c w e. absurd (omega (arith, at-width s at e)))
+    go (suc m) at h = on at (lookAt s at) refl (λ c w e. go m (at + w) (omega (arith, at-width s at e)))
 
 -- ---- the list of characters
 pub chars-skip : (k : ℕ) (s : List ℕ) → charsFrom k s ≡ chars (drop k s)

@@ -5,7 +5,9 @@ pub mod Rows
 pub mod Decodes
 pub mod Finds
 pub mod Leads
+pub mod Goes
 pub mod Laws
 pub mod Edges
 pub mod Puts
 pub mod Unicode
+pub mod Examples

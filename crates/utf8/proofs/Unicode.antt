@@ -1,23 +1,23 @@
--- The theorems of specs/Unicode.antt, and the laws of encodings that callers cite.
+-- The theorems of specs/Unicode.antt (Boundary-exactly is boundary-edge of proofs/Edges.antt), and the laws of encodings that callers cite.
 -- Assumes nothing.
-use Prim.Native.Nat.{ℕ, zero, suc, pred, _+_, _≤_}
-use native.Mathlib.Omega.{arith}
+use Prim.Native.Nat.{ℕ, _+_}
 use mathlib.Core.Bool.{true}
 use mathlib.Core.List.{List, [], _∷_, _++_}
+use mathlib.Core.Logic.{⊎-elim}
 use mathlib.Core.Path.{_≡_, refl, ap, sym, _∙_}
 use lib.ListN.{length, take, drop}
-use lib.Seq.{take-at, drop-append-seam}
+use lib.Seq.{take-at, drop-append-seam, drop-drop}
+use Rattle.basis.proofs.Bounds.{split}
+use Rattle.basis.proofs.Bytes.{past}
 use Rattle.basis.specs.Pick.{both}
 use Rattle.basis.proofs.Cases.{not-both, both-left, both-right}
-use Rattle.utf8.specs.Table.{look, lookAt, charsOn, charsFrom, chars, codes, wellOn, wellFrom, well}
+use Rattle.utf8.specs.Table.{look, lookAt, Ch, charsFrom, chars, charsAt, codes, wellFrom, well}
 use Rattle.utf8.specs.Encode.{isScalar, encode, encodeAll, allScalar}
-use Rattle.utf8.specs.Unicode.{Well-formed-exactly, Decoded-again, Encoded-again, Found-scalar, Found-bytes, Found-size, Found-width, Boundary-exactly}
-use Rattle.utf8.specs.declared.Look.{Look}
+use Rattle.utf8.specs.Unicode.{Well-formed-exactly, Decoded-again, Encoded-again, Found-scalar, Found-bytes, Found-size, Found-width}
 use Rattle.utf8.specs.declared.Look.the-variants.{Char, End}
 use Rattle.utf8.proofs.Decodes.{look-reads}
 use Rattle.utf8.proofs.Finds.{look-encode}
-use Rattle.utf8.proofs.Laws.{look-width, at-width, chars-cons, well-cons}
-use Rattle.utf8.proofs.Edges.{boundary-edge}
+use Rattle.utf8.proofs.Laws.{by-chars, at-width, chars-cons, chars-char, chars-end, chars-start, well-cons, well-char, well-end}
 
 -- ---- a character found
 module _ (s : List ℕ) (at : ℕ) {c w : ℕ} (e : lookAt s at ≡ Char c w) where
@@ -58,31 +58,25 @@ scalars-read (c ∷ cs) e =
     ∙ ap (λ (l : List ℕ). c ∷ l) (scalars-read cs (both-right (isScalar c) (allScalar cs) e))
 
 -- a well-formed text is the encodings of its characters, which are scalar values
-drop-pred : (b : ℕ) (bs : List ℕ) (w : ℕ) → 1 ≤ w → drop (pred w) bs ≡ drop w (b ∷ bs)
-drop-pred b bs zero h = absurd (omega arith)
-drop-pred b bs (suc k) h = refl
+abbrev Encoded : List ℕ → List Ch → Type 0
+Encoded s cs = (allScalar (codes cs) ≡ true) × (encodeAll (codes cs) ≡ s)
 
-abbrev Encoded : ℕ → List ℕ → Type 0
-Encoded k s = (allScalar (codes (charsFrom k s)) ≡ true) × (encodeAll (codes (charsFrom k s)) ≡ drop k s)
-
-encoded-from : (k : ℕ) (s : List ℕ) → wellFrom k s ≡ true → Encoded k s
-unfolding encodeAll allScalar charsFrom wellFrom codes
-encoded-from zero [] e = (refl, refl)
-encoded-from (suc k) [] e = (refl, refl)
-encoded-from (suc k) (b ∷ bs) e = encoded-from k bs e
-encoded-from zero (b ∷ bs) e = go (look (b ∷ bs)) refl e (λ k h. encoded-from k bs h)
+encoded-from : (s : List ℕ) (at : ℕ) → well (drop at s) ≡ true → Encoded (drop at s) (charsAt s at)
+unfolding lookAt encodeAll allScalar codes
+encoded-from s = by-chars s (λ at. well (drop at s) ≡ true → Encoded (drop at s) (charsAt s at)) ended on
   where
-    go : (x : Look) → look (b ∷ bs) ≡ x → wellOn x (λ k. wellFrom k bs) ≡ true → ((k : ℕ) → wellFrom k bs ≡ true → Encoded k bs)
-        → (allScalar (codes (charsOn x (λ k. charsFrom k bs))) ≡ true) × (encodeAll (codes (charsOn x (λ k. charsFrom k bs))) ≡ b ∷ bs)
-    go End q h ih = not-both h refl
-    go (Char c w) q h ih =
-        let r = look-reads (b ∷ bs) q in
-        let i = ih (pred w) h in
-        (rw (r .scalar) (i .0), ap (λ (l : List ℕ). encode c ++ l) (i .1 ∙ drop-pred b bs w (look-width (b ∷ bs) q .0)) ∙ sym (r .bytes))
+    ended : (at : ℕ) → lookAt s at ≡ End → well (drop at s) ≡ true → Encoded (drop at s) (charsAt s at)
+    ended at z e = ⊎-elim (λ h. not-both e (well-end s at z h)) (λ h. rw (past s at h, chars-end s at z) (refl, refl)) (split at (length s))
+
+    on : (at c w : ℕ) → lookAt s at ≡ Char c w → (well (drop (at + w) s) ≡ true → Encoded (drop (at + w) s) (charsAt s (at + w)))
+        → well (drop at s) ≡ true → Encoded (drop at s) (charsAt s at)
+    on at c w z ih e =
+        let r = look-reads (drop at s) z in
+        let i = ih (sym (well-char s at z) ∙ e) in
+        rw (chars-char s at z) (rw (r .scalar) (i .0), ap (λ (l : List ℕ). encode c ++ l) (i .1 ∙ sym (drop-drop w at s)) ∙ sym (r .bytes))
 
 pub well-encoded : (s : List ℕ) → well s ≡ true → (allScalar (codes (chars s)) ≡ true) × (encodeAll (codes (chars s)) ≡ s)
-unfolding chars well
-well-encoded s e = encoded-from 0 s e
+well-encoded s e = rw (← chars-start s) (encoded-from s 0 e)
 
 pub well-iff : Well-formed-exactly
 well-iff s = (λ e. (codes (chars s), well-encoded s e .0, well-encoded s e .1), λ p. rw (← p .2) (scalars-well (p .0) (p .1)))
@@ -102,6 +96,3 @@ found-size s at c w e = size-width s at e
 
 pub found-width : Found-width
 found-width s at c w e = at-width s at e
-
-pub boundary-exactly : Boundary-exactly
-boundary-exactly s at e = boundary-edge s at e

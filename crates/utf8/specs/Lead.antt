@@ -11,12 +11,13 @@ use Rattle.utf8.specs.declared.Lead.the-variants.{Opens, No}
 use Rattle.utf8.specs.declared.Next.{Next}
 use Rattle.utf8.specs.declared.Next.the-variants.{Step, Out}
 
--- the row that has the first byte: its lowest code point, the byte counted from its range's low end, the second byte's range, and how many bytes follow that one
+-- the row of two bytes or more that has the first byte: its lowest code point, the byte counted from its range's low end, the second byte's range, and how many bytes follow that one
 abbrev pub leadIn : List Row → ℕ → Lead
 leadIn [] a = No
 leadIn (row from to r [] ∷ rows) a = leadIn rows a
 leadIn (row from to r (s ∷ rs) ∷ rows) a = pick (within r a) (Opens from (a - r .low) (s .low) (s .high) (length rs)) (leadIn rows a)
 
+-- the row of Table 3-7
 unfoldable pub leadOf : ℕ → Lead
 leadOf a = leadIn table37 a
 

@@ -13,6 +13,7 @@ pub record Range : Type 0 where
   pub low : ℕ
   pub high : ℕ
 
+-- from l up to h, as the table prints it
 infix 90 _‥_
 abbrev pub _‥_ : ℕ → ℕ → Range
 l ‥ h = record { low = l; high = h }
@@ -65,6 +66,7 @@ pub record Ch : Type 0 where
   pub code : ℕ
   pub width : ℕ
 
+-- a character, by its parts
 abbrev pub ch : ℕ → ℕ → Ch
 ch c w = record { code = c; width = w }
 

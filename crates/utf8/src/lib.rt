@@ -27,7 +27,7 @@ enum Next {
     Out,
 }
 
-// The rows of Table 3-7 but the first, each found by where the next one begins.
+// The rows of Table 3-7 but the first; each has the bytes below the next one's.
 fn lead_of(a: u32) -> Lead
     ensures { λ r. ⌜ r ≡ leadOf a ⌝ }
 {
@@ -61,6 +61,7 @@ fn lead_of(a: u32) -> Lead
     Lead::No
 }
 
+// The byte at an offset, if it lies in a range.
 fn next_in(text: &[u8], at: usize, low: u32, high: u32) -> Next
     ensures { λ r. ⌜ r ≡ nextIn low high (drop at (now (text .entry))) ⌝ }
 {

@@ -1,7 +1,8 @@
 -- A byte that is not 80..BF is below that range or above it, and past the last byte only the length is a boundary.
-use mathlib.Core.Path.{sym, _∙_}
+use native.Mathlib.Omega.{arith}
+use mathlib.Core.Path.{sym}
 use borrow.Author.Needs.{needs}
-use Rattle.utf8.proofs.Edges.{boundary-byte, boundary-past, byte-below, byte-above}
+use Rattle.utf8.proofs.Edges.{boundary-low, boundary-high, boundary-past}
 use Rattle.utf8.proofs.is_boundary.Statement.{statement}
 use Rattle.utf8.proofs.is_boundary.Tie as tie
 
@@ -10,6 +11,6 @@ is-boundary-spec =
     tie.close
     (tie.spec
     (λ c. search needs)
-    (λ c. sym (boundary-byte _ _ (c .before .before .if1 .taken) ∙ byte-below _ (c .if2 .taken)))
-    (λ c. sym (boundary-byte _ _ (c .before .before .if1 .taken) ∙ byte-above _ (c .if2 .left)))
-    (λ c. sym (boundary-past _ _ (c .if1 .left))))
+    (λ c. sym (boundary-low _ _ (omega arith) (omega arith)))
+    (λ c. rw (boundary-high _ _ (c .before .before .if1 .taken) (c .if2 .left)))
+    (λ c. rw (boundary-past _ _ (c .if1 .left))))

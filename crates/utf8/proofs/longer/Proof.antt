@@ -1,9 +1,9 @@
--- The row is found, and each turn of the loop reads one further byte in its range: `Going` of proofs/Leads.antt says what holds between turns.
+-- The row is found, and each turn of the loop reads one further byte in its range: `Going` of proofs/Goes.antt says what holds between turns.
 use Prim.Native.Nat.{_+_, _-_}
 use native.Mathlib.Omega.{arith}
 use mathlib.Core.Path.{sym, _∙_}
 use borrow.Author.Needs.{needs}
-use Rattle.utf8.proofs.Leads.{Going, start, step, out, done, fits}
+use Rattle.utf8.proofs.Goes.{Going, start, step, out, done, fits}
 use Rattle.utf8.proofs.longer.Statement.{statement}
 use Rattle.utf8.proofs.longer.Tie as tie
 

@@ -1,3 +1,4 @@
+-- The tests are those of the encoding, and the stores are its bytes; the room asked for is the encoding's length.
 use Prim.Native.Nat.{_+_, _≤_}
 use native.Mathlib.Omega.{arith}
 use native.Mathlib.Numerals.{towards-suc}
