@@ -1,11 +1,13 @@
 -- What taking a character tells of the text: the look that found it, and the cursor behind it. Assumes nothing.
-use Prim.Native.Nat.{ℕ, _+_}
+use Prim.Native.Nat.{ℕ, _+_, _≤_, _<_}
 use native.Mathlib.Omega.{arith}
 use mathlib.Core.List.{List}
 use mathlib.Core.Path.{_≡_, refl, sym, ap, _∙_}
 use Rattle.position.specs.declared.Position.{Position}
 use Rattle.position.specs.Place.{advanced}
+use lib.ListN.{length}
 use Rattle.utf8.specs.Table.{lookAt}
+use Rattle.utf8.proofs.Laws.{at-width}
 use Rattle.utf8.specs.declared.Look.{Look}
 use Rattle.utf8.specs.declared.Look.the-variants as look
 use Rattle.chars.specs.Cursors.{cursor, takenOn, behind, peekAfterOf, getNextOf, eatNextOf}
@@ -97,3 +99,8 @@ module _ (t : List ℕ) (s : Cursor) where
 
   pub none-ate : getNextOf t s ≡ taken.End → eatNextOf t s ≡ taken.End
   none-ate q = ate-none t s (got-ended t s q)
+
+-- a cursor behind a character stands further on, within the text
+module _ (t : List ℕ) (at : ℕ) (p : Position) {c : ℕ} {next : Cursor} (k : Took t at p c next) where
+  pub further : (at < next .at) × (next .at ≤ length t)
+  further = rw (k .stands) (omega (arith, at-width t at (k .found)))

@@ -1,0 +1,4 @@
+pub mod Order
+pub mod Book
+pub mod Lookup
+pub mod Halving

@@ -1,0 +1,70 @@
+-- The words of types/position.rs: Display and Debug for Position, Display for Span.
+use Prim.Native.Nat.{ℕ}
+use mathlib.Core.Bool.{Bool, true, false}
+use mathlib.Core.List.{List, _++_}
+use lib.Dec.{eqb}
+use Rattle.basis.specs.Pick.{pick, both, isnt}
+use Rattle.basis.specs.Words.{word}
+use Rattle.position.specs.declared.Position.{Position}
+use Rattle.position.specs.declared.Coordinate.{Coordinate}
+use Rattle.position.specs.declared.Coordinate.the-variants.{Some, None}
+use Rattle.span.specs.declared.Span.{Span}
+use Rattle.position.specs.Place.{none, isNone, beginsLine, unwrapOr, lineOf, positionOf}
+use Rattle.span.specs.Spans.{startOf, endOf}
+use Rattle.display.specs.Decimal.{decimal}
+
+-- the Rust's `self.line`: 0 where the place answers none
+unfoldable pub lineNumber : Position → ℕ
+lineNumber p = unwrapOr (lineOf p) 0
+
+-- the Rust's `self.pos`: 0 where the place answers none
+unfoldable pub columnNumber : Position → ℕ
+columnNumber p = unwrapOr (positionOf p) 0
+
+-- "3:7"
+unfoldable pub colonOf : Position → List ℕ
+colonOf p = decimal (lineNumber p) ++ word ":" ++ decimal (columnNumber p)
+
+-- Display for Position: "none", "line 3, position 7"
+unfoldable pub displayOf : Position → List ℕ
+displayOf p =
+    pick (isNone p) (word "none")
+    (word "line " ++ decimal (lineNumber p) ++ word ", position " ++ decimal (columnNumber p))
+
+-- Debug for Position: "none", "3", "3:7"
+unfoldable pub debugOf : Position → List ℕ
+debugOf p =
+    pick (isNone p) (word "none")
+    (pick (beginsLine p) (decimal (lineNumber p))
+    (colonOf p))
+
+-- the Rust's == of two Options
+unfoldable pub sameOption : Coordinate → Coordinate → Bool
+sameOption (Some n) (Some m) = eqb n m
+sameOption (Some n) None = false
+sameOption None (Some m) = false
+sameOption None None = true
+
+-- two places on one line: "1:9-15"
+unfoldable pub sameLine : Position → Position → List ℕ
+sameLine a b = colonOf a ++ word "-" ++ decimal (columnNumber b)
+
+-- two places on two lines: "1:9-3:7"
+unfoldable pub apart : Position → Position → List ℕ
+apart a b = debugOf a ++ word "-" ++ debugOf b
+
+-- two places with a dash between, by whether their lines differ
+unfoldable pub dashed : Position → Position → List ℕ
+dashed a b = pick (isnt (sameOption (lineOf a) (lineOf b))) (apart a b) (sameLine a b)
+
+-- the match of Display for Span, its cases in their order
+unfoldable pub between : Position → Position → List ℕ
+between a b =
+    pick (both (isNone a) (isNone b)) (debugOf none)
+    (pick (isNone a) (word ".." ++ debugOf b)
+    (pick (isNone b) (debugOf a)
+    (dashed a b)))
+
+-- Display for Span
+unfoldable pub spanOf : Span → List ℕ
+spanOf s = between (startOf s) (endOf s)
