@@ -1,0 +1,4 @@
+pub mod Refusals
+pub mod Returns
+pub mod Turns
+pub mod Words

@@ -1,0 +1,4 @@
+pub mod Trace
+pub mod Cut
+pub mod Told
+pub mod Limits

@@ -1,0 +1,67 @@
+-- Demand 3 for one literal: what a looser limit and a larger room keep. The statements; their proofs are in proofs/Limits.antt.
+use Prim.Native.Nat.{ℕ, _+_, _≤_, _<_}
+use mathlib.Core.Bool.{true, false}
+use mathlib.Core.List.{List}
+use mathlib.Core.Logic.{_⊎_}
+use mathlib.Core.Path.{_≡_}
+use lib.ListN.{length}
+use Rattle.literal.specs.Trace.{Trace, ends, fails, adds, checks, bytes, final, good, passes}
+use Rattle.literal.specs.Cut.{cut, answer}
+use Rattle.literal.specs.Told.{number}
+use Rattle.literal.specs.declared.End.{End}
+use Rattle.literal.specs.declared.Refusal.{Refusal}
+use Rattle.literal.specs.declared.Scanned.the-variants.{Accepted, Refused}
+
+-- the limit m is nowhere stricter than l: it is none, or it is no smaller
+abbrev pub Looser : ℕ → ℕ → Type 0
+Looser l m = (m ≡ 0) ⊎ ((0 < l) × (l ≤ m))
+
+-- every test of the limit refuses with 7, and no rule of its own does with 7 or 9
+abbrev pub Sevens : Trace → Type 0
+Sevens (ends e) = Unit {0}
+Sevens (fails f) = (f .fault .number ≡ 7 → ⊥) × (f .fault .number ≡ 9 → ⊥)
+Sevens (adds bs t) = Sevens t
+Sevens (checks f t) = (f .fault .number ≡ 7) × Sevens t
+
+-- an accepted reading's length is its body's, and within the room; and it ends as the unlimited rules say
+abbrev pub Accepted-whole : Type 0
+Accepted-whole =
+    (full : Refusal) (limit room : ℕ) (t : Trace) (e : End) (n : ℕ)
+    → cut full limit room 0 t ≡ Accepted e n
+    → (n ≡ length (bytes t)) × (n ≤ room) × (final t ≡ good e)
+
+-- within the limit and the room nothing is cut
+abbrev pub Uncut-within : Type 0
+Uncut-within =
+    (full : Refusal) (limit room : ℕ) (t : Trace)
+    → length (bytes t) ≤ room
+    → passes limit (length (bytes t)) ≡ false
+    → cut full limit room 0 t ≡ answer (length (bytes t)) (final t)
+
+-- neither 7 nor 9: the same answer under any looser limit and larger room
+abbrev pub Recurs-whole : Type 0
+Recurs-whole =
+    (full : Refusal) (l m r s : ℕ) (t : Trace)
+    → full .fault .number ≡ 9
+    → Sevens t
+    → Looser l m
+    → r ≤ s
+    → (number (cut full l r 0 t) ≡ 7 → ⊥)
+    → (number (cut full l r 0 t) ≡ 9 → ⊥)
+    → cut full m s 0 t ≡ cut full l r 0 t
+
+-- a reading, n bytes into it, is cut with a refusal: at the first step that passes the room, or the first test that finds more than the limit
+pub data Cuts (full : Refusal) (limit room : ℕ) : ℕ → Trace → Refusal → Type 0 where
+  no-room : {n : ℕ} {bs : List ℕ} {t : Trace} → room < n + length bs → Cuts full limit room n (adds bs t) full
+  too-long : {n : ℕ} {f : Refusal} {t : Trace} → passes limit n ≡ true → Cuts full limit room n (checks f t) f
+  goes-on : {n : ℕ} {bs : List ℕ} {t : Trace} {g : Refusal} → n + length bs ≤ room → Cuts full limit room (n + length bs) t g → Cuts full limit room n (adds bs t) g
+  is-tested : {n : ℕ} {f : Refusal} {t : Trace} {g : Refusal} → passes limit n ≡ false → Cuts full limit room n t g → Cuts full limit room n (checks f t) g
+
+-- 7 or 9 comes at the first step that passes, and only there
+abbrev pub Cut-at-the-first : Type 0
+Cut-at-the-first =
+    (full : Refusal) (limit room : ℕ) (t : Trace) (f : Refusal)
+    → Sevens t
+    → cut full limit room 0 t ≡ Refused f
+    → (f .fault .number ≡ 7) ⊎ (f .fault .number ≡ 9)
+    → Cuts full limit room 0 t f

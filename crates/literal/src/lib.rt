@@ -1,0 +1,51 @@
+// How a scan of a literal answers, and the limit on a literal's length.
+ghost use mathlib.Core.Path.{_≡_};
+ghost use Rattle.literal.specs.Trace.{passes};
+use chars::cursor::Cursor;
+use fault::Fault;
+use position::Position;
+
+// The terminator on record, for a literal that is still open: a character, and how often it stands.
+pub struct Terminator {
+    pub c: u32,
+    pub times: usize,
+}
+
+impl Terminator {
+    // Nothing is on record.
+    pub const NONE: Self = Self { c: 0, times: 0 };
+}
+
+// Where an accepted literal ends, where its first character ended, and whether `${` ended it.
+pub struct End {
+    pub cursor: Cursor,
+    pub first: Position,
+    pub on_record: Terminator,
+    pub interpolated: bool,
+}
+
+// A refusal, and where the scan then stood.
+pub struct Refusal {
+    pub fault: Fault,
+    pub cursor: Cursor,
+    pub on_record: Terminator,
+}
+
+// A scan's answer: the end and the body's length in bytes, or a refusal.
+pub enum Scanned {
+    Accepted(End, usize),
+    Refused(Refusal),
+}
+
+// Whether a length in bytes passes the limit; 0 is no limit.
+pub fn is_over(limit: usize, n: usize) -> bool
+    ensures { λ r. ⌜ r ≡ passes limit n ⌝ }
+{
+    if limit == 0 {
+        return false;
+    }
+    if limit < n {
+        return true;
+    }
+    false
+}
