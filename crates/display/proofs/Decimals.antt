@@ -4,9 +4,8 @@ use Prim.Native.Nat.{ℕ, zero, suc, _+_, _-_, _*_, _/_, _%_, _≤_, _<_}
 use native.Mathlib.Omega.{arith}
 use mathlib.Core.List.{List, [], _∷_, _++_}
 use mathlib.Core.Logic.{⊎-elim}
-use mathlib.Core.Path.{_≡_, refl, sym, ap, _∙_}
+use mathlib.Core.Path.{_≡_, refl}
 use lib.ListN.{length, getD, length-append, List·getD-append}
-use lib.Seq.{getD-append-seam}
 use borrow.Author.Tests.{lt-ltb, le-ltb}
 use Rattle.basis.specs.Words.{word}
 use Rattle.basis.proofs.Bounds.{split}

@@ -1,7 +1,7 @@
 -- Lines compared: of places that are not NONE the numbers tell what the Rust's Options tell. Assumes nothing.
 use Prim.Native.Nat.{ℕ}
 use mathlib.Core.Bool.{false}
-use mathlib.Core.Path.{_≡_, refl}
+use mathlib.Core.Path.{_≡_}
 use lib.Dec.{eqb}
 use Rattle.position.specs.declared.Position.{Position}
 use Rattle.position.specs.declared.Coordinate.the-variants.{Some}

@@ -1,62 +1,68 @@
--- A text that is put together in memory of our own, and then written whole.
--- Assumes nothing.
+-- Texts that are put together part by part. Assumes nothing.
 use Prim.Native.Nat.{ℕ, _+_, _/_, _%_, _≤_, _<_}
 use native.Mathlib.Omega.{arith}
 use mathlib.Core.List.{List, [], _∷_, _++_, append-assoc}
-use mathlib.Core.Path.{_≡_, refl, sym, ap, _∙_}
-use lib.ListN.{length, take, drop, set, length-append}
-use lib.Seq.{take-at}
-use Rattle.basis.specs.Store.{stored, after, over, Stored}
-use Rattle.basis.proofs.Stores.{sets-front, and-then, whole}
+use mathlib.Core.Path.{_≡_, refl}
+use lib.ListN.{length, drop, replicate, length-append}
+use lib.Seq.{take-at, length-sets}
+use Rattle.basis.specs.Store.{Stored}
+use Rattle.basis.proofs.Stores.{sets-front, and-then}
 use Rattle.display.specs.Decimal.{digit, decimal}
-use Rattle.display.specs.Put.{Put}
+use Rattle.display.specs.Put.{empty, textOf, Put}
+use Rattle.display.specs.declared.Text.{Text}
 use Rattle.display.proofs.Decimals.{decimal-one, decimal-more, decimal-short}
 
 -- the count is the length
-pub sized : {l : List ℕ} {i n : ℕ} {xs : List ℕ} {r : ℕ} {l′ : List ℕ} → Stored l i n xs r l′ → Stored l i (length xs) xs r l′
+sized : {l : List ℕ} {i n : ℕ} {xs : List ℕ} {r : ℕ} {l′ : List ℕ} → Stored l i n xs r l′ → Stored l i (length xs) xs r l′
 sized s = record { count = refl; next = rw (s .count) (s .next); memory = s .memory }
 
--- a word put, and a number
-pub word-put : (l : List ℕ) (i : ℕ) (xs : List ℕ) {r : ℕ} {l′ : List ℕ} → r ≡ after l i xs → l′ ≡ stored l i xs → i + length xs ≤ length l → Put l i xs (length xs) r l′
-word-put l i xs e f h = record { stored = whole l i xs e f h; short = omega arith }
+-- two parts, one behind the other
+pub and-put : {t u r : Text} {xs ys : List ℕ} {k m : ℕ} → Put t xs k u → Put u ys m r → Put t (xs ++ ys) (k + m) r
+and-put {xs = xs} {ys = ys} s p = record {
+  stored = sized (and-then (s .stored) (p .stored));
+  short = rw (length-append xs ys) (omega arith);
+}
 
-pub number-put : {l : List ℕ} {i n r : ℕ} {l′ : List ℕ} → n ≤ 65535 → Stored l i (length (decimal n)) (decimal n) r l′ → Put l i (decimal n) 5 r l′
-number-put {l} {i} {n} h s = record { stored = s; short = decimal-short n h }
-
--- two texts put, one behind the other
-pub and-put : {l : List ℕ} {i : ℕ} {xs : List ℕ} {k r : ℕ} {l′ : List ℕ} {ys : List ℕ} {m q : ℕ} {l″ : List ℕ} → Put l i xs k r l′ → Put l′ r ys m q l″ → Put l i (xs ++ ys) (k + m) q l″
-and-put {xs = xs} {ys = ys} s t = record { stored = sized (and-then (s .stored) (t .stored)); short = rw (length-append xs ys) (omega arith) }
-
--- the same where the second text begins with a word
-pub and-both : {l : List ℕ} {i : ℕ} (xs w ys : List ℕ) {k r : ℕ} {l′ : List ℕ} {m q : ℕ} {l″ : List ℕ} → Put l i xs k r l′ → Put l′ r (w ++ ys) m q l″ → Put l i (xs ++ w ++ ys) (k + m) q l″
-and-both xs w ys s t = rw (append-assoc xs w ys) (and-put s t)
+-- the same where the second begins with a word
+pub and-both : {t u r : Text} (xs w ys : List ℕ) {k m : ℕ} → Put t xs k u → Put u (w ++ ys) m r → Put t (xs ++ w ++ ys) (k + m) r
+and-both xs w ys s p = rw (append-assoc xs w ys) (and-put s p)
 
 -- a bound may be larger
-pub at-most : {l : List ℕ} {i : ℕ} {xs : List ℕ} {k r : ℕ} {l′ : List ℕ} (m : ℕ) → k ≤ m → Put l i xs k r l′ → Put l i xs m r l′
+pub at-most : {t r : Text} {xs : List ℕ} {k : ℕ} (m : ℕ) → k ≤ m → Put t xs k r → Put t xs m r
 at-most m h s = record { stored = s .stored; short = omega arith }
 
--- the index after a text
-pub reached : {l : List ℕ} {i : ℕ} {xs : List ℕ} {k r : ℕ} {l′ : List ℕ} → Put l i xs k r l′ → r ≤ i + k
+-- how far a part reaches
+pub reached : {t r : Text} {xs : List ℕ} {k : ℕ} → Put t xs k r → r .len ≤ t .len + k
 reached s = omega (arith, s .stored .next, s .short)
 
--- a text put at the front is the part up to the index after it
-pub front : {l : List ℕ} {xs : List ℕ} {k r : ℕ} {l′ : List ℕ} → Put l 0 xs k r l′ → k ≤ length l → take r l′ ≡ xs
-front {l} {xs} {k} {r} {l′} s h =
-    rw (s .stored .memory, sets-front l xs (omega (arith, s .short)))
-    (take-at xs (drop (length xs) l) r (omega (arith, s .stored .next)))
+-- a coordinate's digits
+pub number-put : {t r : Text} {n : ℕ} → n ≤ 65535 → Put t (decimal n) (length (decimal n)) r → Put t (decimal n) 5 r
+number-put {n = n} h s = at-most 5 (decimal-short n h) s
 
-pub front-length : {l : List ℕ} {xs : List ℕ} {k r : ℕ} {l′ : List ℕ} → Put l 0 xs k r l′ → k ≤ length l → r ≡ length (take r l′)
-front-length s h = rw (front s h) (omega (arith, s .stored .next))
-
--- one byte put
-byte : (l : List ℕ) (i b : ℕ) → Stored l i 1 (b ∷ []) (i + 1) (set l i b)
-byte l i b = record { count = refl; next = refl; memory = refl }
-
--- the digits of a number put: one, or those of its tens and one more
-pub one-digit : (l : List ℕ) (i n : ℕ) → n < 10 → Stored l i (length (decimal n)) (decimal n) (i + 1) (set l i (48 + n))
+-- the digits of a number: one, or those of its tens and one more
+pub one-digit : {t r : Text} {n : ℕ} → n < 10 → Put t ((48 + n) ∷ []) 1 r → Put t (decimal n) (length (decimal n)) r
 unfolding digit
-one-digit l i n h = rw (decimal-one n h) (byte l i (48 + n))
+one-digit {n = n} h s = rw (decimal-one n h) s
 
-pub digit-more : (l l′ : List ℕ) (i n r : ℕ) → 10 ≤ n → Stored l i (length (decimal (n / 10))) (decimal (n / 10)) r l′ → Stored l i (length (decimal n)) (decimal n) (r + 1) (set l′ r (48 + n % 10))
+pub digit-more : {t u r : Text} {n : ℕ} → 10 ≤ n → Put t (decimal (n / 10)) (length (decimal (n / 10))) u → Put u ((48 + n % 10) ∷ []) 1 r → Put t (decimal n) (length (decimal n)) r
 unfolding digit
-digit-more l l′ i n r h s = rw (decimal-more n h) (sized (and-then s (byte l′ r (48 + n % 10))))
+digit-more {n = n} h s p = rw (decimal-more n h, length-append (decimal (n / 10)) (digit (n % 10) ∷ [])) (and-put s p)
+
+-- an empty text has room, and what is put into it is the text
+pub blank-room : {t : Text} → t ≡ empty → (k : ℕ) → k ≤ 32 → t .len + k ≤ 32
+unfolding empty
+blank-room e k h = rw e (omega arith)
+
+module _ {t r : Text} {xs : List ℕ} {k : ℕ} (e : t ≡ empty) (s : Put t xs k r) (h : k ≤ 32) where
+  pub put-room : r .len ≤ length (r .bytes)
+  unfolding empty
+  put-room =
+      let p = rw e at s in
+      rw (p .stored .memory, length-sets (replicate 32 0) 0 xs) (omega (arith, p .short, p .stored .next))
+
+  pub whole-text : textOf r ≡ xs
+  unfolding empty textOf
+  whole-text =
+      let p = rw e at s in
+      rw (p .stored .memory, sets-front (replicate 32 0) xs (omega (arith, p .short)))
+      (take-at xs (drop (length xs) (replicate 32 0)) (r .len) (omega (arith, p .stored .next)))

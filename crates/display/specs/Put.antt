@@ -1,10 +1,19 @@
--- What the writers of this crate tell each other of the memory in which a text is put together.
+-- A text while it is put together, and what the functions that add to it tell each other.
 use Prim.Native.Nat.{ℕ, _+_, _≤_}
 use mathlib.Core.List.{List}
-use lib.ListN.{length}
+use lib.ListN.{length, take, replicate}
 use Rattle.basis.specs.Store.{Stored}
+use Rattle.display.specs.declared.Text.{Text}
 
--- in the memory l, the text xs, of at most k bytes, stands from the index i on; r is the index after it and l′ the memory now
-pub record Put (l : List ℕ) (i : ℕ) (xs : List ℕ) (k r : ℕ) (l′ : List ℕ) : Type 0 where
-  pub stored : Stored l i (length xs) xs r l′
+-- no byte yet
+unfoldable pub empty : Text
+empty = record { bytes = replicate 32 0; len = 0 }
+
+-- the text so far
+unfoldable pub textOf : Text → List ℕ
+textOf t = take (t .len) (t .bytes)
+
+-- to the text t the bytes xs, at most k of them, are added, and r is the text now
+pub record Put (t : Text) (xs : List ℕ) (k : ℕ) (r : Text) : Type 0 where
+  pub stored : Stored (t .bytes) (t .len) (length xs) xs (r .len) (r .bytes)
   pub short : length xs ≤ k

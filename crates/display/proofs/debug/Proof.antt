@@ -1,24 +1,22 @@
--- The form is put together in memory of its own, and the part up to its end is written whole.
+-- The form is put together, and then written whole.
 use native.Mathlib.Omega.{arith}
 use borrow.Author.Needs.{needs}
-use Rattle.display.proofs.Texts.{front, front-length}
+use Rattle.display.proofs.Texts.{blank-room, put-room, whole-text}
 use Rattle.display.proofs.debug.Statement.{statement}
 use Rattle.display.proofs.debug.Tie as tie
 
 returns : tie.Need-returns
 returns c =
     let written = c .before .before in
-    let put = written .before .before .before .before in
-    let is = front (put .put-debug .ensures) (omega arith) in
-    (rw (← is) (written .write .ensures .0), rw (← is) (written .write .ensures .1))
+    let put = written .before .before in
+    let is = whole-text (put .before .blank .ensures) (put .put-debug .ensures) (omega arith) in
+    (rw (← is) (written .write-text .ensures .0), rw (← is) (written .write-text .ensures .1))
 
 pub debug-spec : {M : Type 1} → statement M
 debug-spec = tie.close
     (tie.spec
-    (λ c. search needs)
     (λ c κs. search needs)
-    (λ c. search needs)
-    (λ c. front-length (c .before .before .put-debug .ensures) (omega arith))
-    (λ c κs. search needs)
+    (λ c κs. blank-room (c .blank .ensures) 11 (omega arith))
+    (λ c κs. put-room (c .before .before .blank .ensures) (c .before .put-debug .ensures) (omega arith))
     (λ c. search needs)
     returns)

@@ -1,24 +1,14 @@
 -- The word is put, and the digits behind it.
 use native.Mathlib.Omega.{arith}
 use borrow.Author.Needs.{needs}
-use lib.ListN.{length}
-use Rattle.display.specs.Put.{Put}
 use Rattle.display.proofs.Decimals.{decimal-short}
-use Rattle.display.proofs.Texts.{word-put, number-put, and-put, reached}
+use Rattle.display.proofs.Texts.{and-put, reached, number-put}
 use Rattle.display.proofs.put_number.Statement.{statement}
 use Rattle.display.proofs.put_number.Tie as tie
-
--- the word is in
-abbrev from : tie.After-copy → tie.Start
-from c = c .before .before .before .before
-
-copied : (c : tie.After-copy) → Put (from c .args .text .now) (from c .args .at) (from c .args .lead .now) (length (from c .args .lead .now)) (c .copy .result) (c .copy .last .1 .0)
-copied c = word-put _ _ _ (c .copy .ensures .0) (c .copy .ensures .1) (omega arith)
 
 pub put-number-spec : {M : Type 1} → statement M
 put-number-spec = tie.close
     (tie.spec
     (λ c κs. search needs)
-    (λ c κs. let k = c .before .before .before in omega (arith, reached (copied k), k .copy .kept .1 .0, decimal-short (from k .args .n) (from k .pre .0)))
-    (λ c. search needs)
-    (λ c. let k = c .before .before .before .before .before .before in and-put (copied k) (number-put (from k .pre .0) (c .before .before .put-decimal .ensures))))
+    (λ c κs. omega (arith, reached (c .put-word .ensures), decimal-short (c .before .before .args .n) (c .before .before .pre .0)))
+    (λ c. and-put (c .before .put-word .ensures) (number-put (c .before .before .before .pre .0) (c .put-decimal .ensures))))

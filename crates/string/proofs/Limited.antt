@@ -1,0 +1,130 @@
+-- Demand 3 for a string literal: its limits are 7 and its own refusals are not, so what holds of any such reading holds of it. Assumes nothing.
+use Prim.Native.Nat.{ℕ, zero, suc, _+_, _-_, _≤_}
+use native.Mathlib.Omega.{arith}
+use mathlib.Core.Bool.{Bool, false}
+use mathlib.Core.List.{List, [], _∷_}
+use mathlib.Core.Logic.{_⊎_}
+use mathlib.Core.Path.{_≡_, refl}
+use lib.Dec.{eqb, ltb}
+use lib.ListN.{length}
+use Rattle.basis.proofs.Cases.{pick-cases}
+use Rattle.position.specs.declared.Position.{Position}
+use Rattle.position.specs.Place.{onLine, beginsLine}
+use Rattle.utf8.specs.Table.{Ch, chars, charsAt, well, edge}
+use Rattle.utf8.specs.Encode.{encoded}
+use Rattle.chars.specs.Cursors.{cursor}
+use Rattle.chars.specs.Door.{doorOf}
+use Rattle.classes.specs.White.{isWhite}
+use Rattle.chars.specs.Scan.{go, stop, run, runAt, onTurn}
+use Rattle.chars.specs.declared.cursor.Cursor.{Cursor}
+use Rattle.literal.specs.Trace.{Trace, checks, added, tested, yields, bytes, final, good, passes}
+use Rattle.literal.specs.Cut.{answer}
+use Rattle.literal.specs.Told.{number}
+use Rattle.literal.specs.Limits.{Sevens, Looser, Cuts}
+use Rattle.literal.specs.declared.End.{End}
+use Rattle.literal.specs.declared.Refusal.{Refusal}
+use Rattle.literal.specs.declared.Scanned.the-variants.{Accepted, Refused}
+use Rattle.literal.proofs.Limits.{accepted-whole, uncut-within, recurs-whole, cut-at-the-first}
+use Rattle.string_turn.specs.Kinds.{quote, apostrophe, backtick}
+use Rattle.string_turn.specs.Endings.{once}
+use Rattle.string_turn.specs.Turns.{endOf, takeOf, actOf}
+use Rattle.string_turn.specs.declared.State.{State}
+use Rattle.string_turn.specs.declared.Last.{Last}
+use Rattle.string_turn.specs.declared.Last.the-variants.{Good, Bad}
+use Rattle.string_turn.specs.declared.Got.{Got}
+use Rattle.string_turn.specs.declared.Got.the-variants as got
+use Rattle.string_turn.specs.declared.Step.{Step}
+use Rattle.string_turn.specs.declared.Step.the-variants as step
+use Rattle.string_turn.proofs.Reaching.{Fair, Gets, Steps, take-gets, act-steps, end-fair}
+use Rattle.string.specs.Ends.{tooLongAt, fullAt, argumentAt, lastOf}
+use Rattle.string.specs.Scans.{onGot, onStep, turnOf, rule, begun, readingOf, startOf, argumentOf, traceOf, scanOf}
+
+last-sevens : (start : Position) (last : Last) → Fair last → Sevens (lastOf start last)
+unfolding lastOf tooLongAt
+last-sevens start (Good e) p = (refl, tt)
+last-sevens start (Bad f) p = p
+
+module _ (white : ℕ → Bool) (t : List ℕ) (q : ℕ) (start : Position) where
+  run-sevens : (k : ℕ) (cs : List Ch) (at : ℕ) (s : State) → Sevens (run (rule white t q start) k cs at s)
+  unfolding run rule turnOf yields tooLongAt
+  run-sevens k [] at s = last-sevens start (endOf q start at s) (end-fair q start at s)
+  run-sevens (suc k) (c ∷ cs) at s = run-sevens k cs (at + c .width) s
+  run-sevens zero (c ∷ cs) at s = taken (takeOf t q start at s) (take-gets t q start at s) (λ k r. run-sevens k cs (at + c .width) r)
+    where
+      on : ℕ → State → Trace
+      on k r = run (rule white t q start) k cs (at + c .width) r
+
+      acted : (here : Cursor) (x : Step) → Steps t (here .at) x → ((k : ℕ) (r : State) → Sevens (on k r))
+          → Sevens (onTurn (onStep x (λ d next r. go (tested (tooLongAt start here (once q)) ∷ added (encoded d) ∷ []) (length (c ∷ cs) - suc (length (charsAt t next))) r)
+          (λ last. stop (checks (tooLongAt start here (once q)) (lastOf start last)))) (λ n k r. yields n (on k r)) (λ r. r))
+      acted here (step.Go d next r) p ih = (refl, ih (suc (length cs) - suc (length (charsAt t next))) r)
+      acted here (step.Over last) p ih = (refl, last-sevens start last p)
+
+      taken : (x : Got) → Gets t at x → ((k : ℕ) (r : State) → Sevens (on k r))
+          → Sevens (onTurn (onGot x
+          (λ d here. onStep (actOf white t q start d here s)
+          (λ d next r. go (tested (tooLongAt start here (once q)) ∷ added (encoded d) ∷ []) (length (c ∷ cs) - suc (length (charsAt t next))) r)
+          (λ last. stop (checks (tooLongAt start here (once q)) (lastOf start last))))
+          (λ last. stop (lastOf start last))) (λ n k r. yields n (on k r)) (λ r. r))
+      taken (got.Char d here) p ih = acted here (actOf white t q start d here s) (act-steps t white q start d here s) ih
+      taken (got.Over last) p ih = last-sevens start last p
+
+pub reading-sevens : (white : ℕ → Bool) (t : List ℕ) (q : ℕ) (from : Cursor) → Sevens (readingOf white t q from)
+unfolding readingOf runAt
+reading-sevens white t q from = run-sevens white t q (from .place) 0 (charsAt t (from .at)) (from .at) (begun (from .place))
+
+-- the refusals of the arguments are 1, 2 and 3
+small : ℕ → Type 0
+small n = n ≤ 3
+
+door-small : (t : List ℕ) (at : ℕ) → doorOf t at ≤ 3
+unfolding doorOf small
+door-small t at =
+    pick-cases small (ltb 16777216 (length t)) _ _ (λ _. omega arith)
+    (λ _. pick-cases small (well t) _ _ (λ _. pick-cases small (edge (chars t) at) _ _ (λ _. omega arith) (λ _. omega arith)) (λ _. omega arith))
+
+start-small : (p : Position) (q : ℕ) → startOf p q ≤ 3
+unfolding startOf small
+start-small p q =
+    pick-cases small (onLine p) _ _
+    (λ _. pick-cases small (eqb q quote) _ _ (λ _. pick-cases small (beginsLine p) _ _ (λ _. omega arith) (λ _. omega arith))
+    (λ _. pick-cases small (eqb q apostrophe) _ _ (λ _. omega arith) (λ _. pick-cases small (eqb q backtick) _ _ (λ _. omega arith) (λ _. omega arith))))
+    (λ _. omega arith)
+
+argument-small : (t : List ℕ) (at : ℕ) (p : Position) (q : ℕ) → argumentOf t at p q ≤ 3
+unfolding argumentOf small
+argument-small t at p q = pick-cases small (eqb (doorOf t at) 0) _ _ (λ _. start-small p q) (λ _. door-small t at)
+
+pub trace-sevens : (t : List ℕ) (at : ℕ) (p : Position) (q : ℕ) → Sevens (traceOf t at p q)
+unfolding traceOf argumentAt
+trace-sevens t at p q =
+    let h = argument-small t at p q in
+    pick-cases Sevens (eqb (argumentOf t at p q) 0) _ _
+    (λ _. reading-sevens isWhite t q (cursor at p))
+    (λ _. ((λ e. omega arith), (λ e. omega arith)))
+
+-- demand 3 of the scan
+module _ (t : List ℕ) (at : ℕ) (p : Position) (q : ℕ) where
+  -- an accepted literal's length is its body's, and within the room; and it ends as the unlimited rules say
+  pub scan-accepted : (limit room : ℕ) (e : End) (n : ℕ) → scanOf t at p q limit room ≡ Accepted e n
+      → (n ≡ length (bytes (traceOf t at p q))) × (n ≤ room) × (final (traceOf t at p q) ≡ good e)
+  unfolding scanOf
+  scan-accepted limit room e n h = accepted-whole (fullAt (cursor at p)) limit room (traceOf t at p q) e n h
+
+  -- within the limit and the room nothing is cut
+  pub scan-uncut : (limit room : ℕ) → length (bytes (traceOf t at p q)) ≤ room → passes limit (length (bytes (traceOf t at p q))) ≡ false
+      → scanOf t at p q limit room ≡ answer (length (bytes (traceOf t at p q))) (final (traceOf t at p q))
+  unfolding scanOf
+  scan-uncut limit room h g = uncut-within (fullAt (cursor at p)) limit room (traceOf t at p q) h g
+
+  -- neither 7 nor 9: the same answer under any looser limit and larger room
+  pub scan-recurs : (l m r s : ℕ) → Looser l m → r ≤ s → (number (scanOf t at p q l r) ≡ 7 → ⊥) → (number (scanOf t at p q l r) ≡ 9 → ⊥)
+      → scanOf t at p q m s ≡ scanOf t at p q l r
+  unfolding scanOf fullAt
+  scan-recurs l m r s o h x y = recurs-whole (fullAt (cursor at p)) l m r s (traceOf t at p q) refl (trace-sevens t at p q) o h x y
+
+  -- 7 or 9 comes at the first step that passes, and only there
+  pub scan-cut : (limit room : ℕ) (f : Refusal) → scanOf t at p q limit room ≡ Refused f → (f .fault .number ≡ 7) ⊎ (f .fault .number ≡ 9)
+      → Cuts (fullAt (cursor at p)) limit room 0 (traceOf t at p q) f
+  unfolding scanOf
+  scan-cut limit room f h n = cut-at-the-first (fullAt (cursor at p)) limit room (traceOf t at p q) f (trace-sevens t at p q) h n
