@@ -1,0 +1,8 @@
+pub mod Returns
+pub mod Turns
+pub mod Openings
+pub mod Loops
+pub mod Parts
+pub mod Readings
+pub mod Limits
+pub mod Refusals

@@ -1,0 +1,138 @@
+-- What the arguments of a scan refuse, for each way out; what is known of arguments that nothing refuses; and the reading then. Assumes nothing.
+use Prim.Native.Nat.{ℕ, _≤_, _<_}
+use native.Mathlib.Omega.{arith}
+use mathlib.Core.Bool.{Bool, true, false}
+use mathlib.Core.List.{List}
+use mathlib.Core.Path.{_≡_, refl, sym, _∙_}
+use lib.Dec.{eqb, ltb}
+use lib.ListN.{length}
+use borrow.Author.Tests.{eq-eqb, ne-eqb, le-leb, lt-leb, eqb-true}
+use Rattle.basis.specs.Pick.{pick}
+use Rattle.basis.proofs.Cases.{pick-cases}
+use Rattle.position.specs.declared.Position.{Position}
+use Rattle.position.specs.Place.{onLine}
+use Rattle.utf8.specs.Table.{_‥_, within, chars, well, edge}
+use Rattle.chars.specs.Cursors.{cursor}
+use Rattle.chars.specs.Door.{doorOf}
+use Rattle.chars.specs.declared.cursor.Cursor.{Cursor}
+use Rattle.chars.proofs.Doors.{admitted}
+use Rattle.literal.specs.Trace.{Trace, fails}
+use Rattle.literal.specs.Cut.{cut, wrote}
+use Rattle.literal.specs.declared.Refusal.{Refusal}
+use Rattle.literal.specs.declared.Scanned.{Scanned}
+use Rattle.literal.specs.declared.Scanned.the-variants.{Refused}
+use Rattle.literal.proofs.Turns.{cut-fails}
+use Rattle.raw.specs.Raw.{readOf, refused, traceOf, entersOf, resumesOf, parseTrace, parseOf, resumeTrace, resumeOf}
+
+-- a number asked first, and 3 where a test fails
+abbrev then3 : ℕ → Bool → ℕ
+then3 n b = pick (eqb n 0) (pick b 0 3) n
+
+passed-both : (n : ℕ) (b : Bool) → then3 n b ≡ 0 → n ≡ 0
+passed-both n b = pick-cases (λ (x : ℕ). x ≡ 0 → n ≡ 0) (eqb n 0) (pick b 0 3) n (λ q h. eqb-true n 0 q) (λ q h. h)
+
+still-small : (n : ℕ) (b : Bool) → n ≤ 3 → then3 n b ≤ 3
+still-small n b h =
+    pick-cases (λ (x : ℕ). x ≤ 3) (eqb n 0) (pick b 0 3) n (λ q. pick-cases (λ (x : ℕ). x ≤ 3) b 0 3 (λ p. omega arith) (λ p. omega arith)) (λ q. h)
+
+door-small : (t : List ℕ) (at : ℕ) → doorOf t at ≤ 3
+unfolding doorOf
+door-small t at =
+    pick-cases (λ (x : ℕ). x ≤ 3) (ltb 16777216 (length t)) 2 _ (λ q. omega arith) (λ q.
+    pick-cases (λ (x : ℕ). x ≤ 3) (well t) _ 1 (λ p. pick-cases (λ (x : ℕ). x ≤ 3) (edge (chars t) at) 0 3 (λ r. omega arith) (λ r. omega arith)) (λ p. omega arith))
+
+module _ (t : List ℕ) (start : Cursor) where
+  -- the door, and the line
+  pub at-door : {n : ℕ} → n ≡ doorOf t (start .at) → (n ≡ 0 → ⊥) → n ≡ entersOf t start
+  unfolding entersOf
+  at-door {n} e h = rw (← e, ne-eqb n 0 h)
+
+  module _ {n : ℕ} (e : n ≡ doorOf t (start .at)) (z : n ≡ 0) where
+    pub off-line : onLine (start .place) ≡ false → 3 ≡ entersOf t start
+    unfolding entersOf
+    off-line f = rw (← e, eq-eqb n 0 z, f)
+
+    pub on-line : onLine (start .place) ≡ true → 0 ≡ entersOf t start
+    unfolding entersOf
+    on-line f = rw (← e, eq-eqb n 0 z, f)
+
+  pub enters-within : {n : ℕ} → n ≡ entersOf t start → n ≡ 0 → start .at ≤ length t
+  unfolding entersOf
+  enters-within e z = admitted t (start .at) (passed-both (doorOf t (start .at)) (onLine (start .place)) (sym e ∙ z)) .within
+
+  pub enters-small : entersOf t start ≤ 3
+  unfolding entersOf
+  enters-small = still-small (doorOf t (start .at)) (onLine (start .place)) (door-small t (start .at))
+
+  -- the hash count
+  module _ (k : ℕ) where
+    pub at-entry : {n : ℕ} → n ≡ entersOf t start → (n ≡ 0 → ⊥) → n ≡ resumesOf t start k
+    unfolding resumesOf
+    at-entry {n} e h = rw (← e, ne-eqb n 0 h)
+
+    module _ {n : ℕ} (e : n ≡ entersOf t start) (z : n ≡ 0) where
+      pub no-hash : k < 1 → 3 ≡ resumesOf t start k
+      unfolding resumesOf
+      no-hash h = rw (← e, eq-eqb n 0 z, lt-leb 1 k h)
+
+      module _ (h : 1 ≤ k) where
+        pub too-many : 16777216 < k → 3 ≡ resumesOf t start k
+        unfolding resumesOf
+        too-many g = rw (← e, eq-eqb n 0 z, le-leb 1 k h, lt-leb k 16777216 g)
+
+        pub let-in : k ≤ 16777216 → 0 ≡ resumesOf t start k
+        unfolding resumesOf
+        let-in g = rw (← e, eq-eqb n 0 z, le-leb 1 k h, le-leb k 16777216 g)
+
+    pub resumes-within : {n : ℕ} → n ≡ resumesOf t start k → n ≡ 0 → start .at ≤ length t
+    unfolding resumesOf
+    resumes-within e z = enters-within (sym (passed-both (entersOf t start) (within (1 ‥ 16777216) k) (sym e ∙ z))) refl
+
+    pub resumes-small : resumesOf t start k ≤ 3
+    unfolding resumesOf
+    resumes-small = still-small (entersOf t start) (within (1 ‥ 16777216) k) enters-small
+
+-- the reading, where nothing was refused and where something was
+module _ (lines : Bool) {n number : ℕ} (e : n ≡ number) (t : List ℕ) (start : Cursor) (k : ℕ) where
+  pub reads-on : n ≡ 0 → traceOf lines number t start k ≡ readOf lines t start k
+  unfolding traceOf
+  reads-on z = rw (← e, eq-eqb n 0 z)
+
+  pub is-refused : (n ≡ 0 → ⊥) → traceOf lines number t start k ≡ fails (refused n start)
+  unfolding traceOf
+  is-refused h = rw (← e, ne-eqb n 0 h)
+
+-- a refused scan leaves what was lent
+pub untouched : (f : Refusal) (t : Trace) (l : List ℕ) → l ≡ wrote (Refused f) t l
+unfolding wrote
+untouched f t l = refl
+
+-- the answers of the two entries, and what they leave of what was lent
+module _ (lines : Bool) (t : List ℕ) (at : ℕ) (p : Position) where
+  module _ {n : ℕ} (e : n ≡ entersOf t (cursor at p)) where
+    pub parse-refused : (limit room : ℕ) → (n ≡ 0 → ⊥) → Refused (refused n (cursor at p)) ≡ parseOf lines t at p limit room
+    unfolding parseOf parseTrace
+    parse-refused limit room h = rw (is-refused lines e t (cursor at p) 0 h) (sym (cut-fails (refused 9 (cursor at p)) limit room 0 (refused n (cursor at p))))
+
+    module _ (z : n ≡ 0) where
+      pub parse-answered : (limit room : ℕ) {r : Scanned} → r ≡ cut (refused 9 (cursor at p)) limit room 0 (readOf lines t (cursor at p) 0) → r ≡ parseOf lines t at p limit room
+      unfolding parseOf parseTrace
+      parse-answered limit room h = rw (reads-on lines e t (cursor at p) 0 z) h
+
+      pub parse-left : (r : Scanned) (l : List ℕ) {l′ : List ℕ} → l′ ≡ wrote r (readOf lines t (cursor at p) 0) l → l′ ≡ wrote r (parseTrace lines t at p) l
+      unfolding parseTrace
+      parse-left r l h = rw (reads-on lines e t (cursor at p) 0 z) h
+
+  module _ (k : ℕ) {n : ℕ} (e : n ≡ resumesOf t (cursor at p) k) where
+    pub resume-refused : (limit room : ℕ) → (n ≡ 0 → ⊥) → Refused (refused n (cursor at p)) ≡ resumeOf lines t at p k limit room
+    unfolding resumeOf resumeTrace
+    resume-refused limit room h = rw (is-refused lines e t (cursor at p) k h) (sym (cut-fails (refused 9 (cursor at p)) limit room 0 (refused n (cursor at p))))
+
+    module _ (z : n ≡ 0) where
+      pub resume-answered : (limit room : ℕ) {r : Scanned} → r ≡ cut (refused 9 (cursor at p)) limit room 0 (readOf lines t (cursor at p) k) → r ≡ resumeOf lines t at p k limit room
+      unfolding resumeOf resumeTrace
+      resume-answered limit room h = rw (reads-on lines e t (cursor at p) k z) h
+
+      pub resume-left : (r : Scanned) (l : List ℕ) {l′ : List ℕ} → l′ ≡ wrote r (readOf lines t (cursor at p) k) l → l′ ≡ wrote r (resumeTrace lines t at p k) l
+      unfolding resumeTrace
+      resume-left r l h = rw (reads-on lines e t (cursor at p) k z) h
