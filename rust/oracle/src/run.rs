@@ -1,0 +1,67 @@
+//! The source's own run over a script, and what it keeps of token ends.
+
+use crate::caught::caught;
+use crate::tokenizer::{access, TokenizerControlBlock};
+use crate::types::position::access::{from_pair, to_pair};
+use crate::types::Token;
+use crate::{token, Engine, Place};
+
+/// The two places that the source keeps as it lists tokens.
+#[derive(Debug, Clone, Copy, PartialEq, Eq)]
+pub struct Ends {
+    pub last: Place,
+    pub previous: Place,
+}
+
+/// The ends after a token, given by its number, whose scan reached `place`.
+pub fn record_token(ends: Ends, number: u32, place: Place) -> Option<Ends> {
+    let token = token::sample(number)?;
+    let mut control = TokenizerControlBlock::new();
+    control.last_token_end = from_pair(ends.last);
+    control.previous_token_end = from_pair(ends.previous);
+    caught(|| access::record_token(&mut control, &token, from_pair(place)))?;
+    Some(Ends {
+        last: to_pair(control.last_token_end),
+        previous: to_pair(control.previous_token_end),
+    })
+}
+
+/// The numbers and places of a script's tokens, EOF or the first fault last.
+///
+/// An interpolated text goes on after the `}` that ends its block, as the source's parser asks.
+pub fn tokens(script: &str) -> Option<Vec<(u32, Place)>> {
+    caught(|| listed(script))
+}
+
+fn listed(script: &str) -> Vec<(u32, Place)> {
+    let engine = Engine::default();
+    let scripts = [script];
+    let (stream, control) = engine.lex_raw(&scripts, None);
+    let mut listed = Vec::new();
+    // Braces open in each interpolated block, the outermost first.
+    let mut blocks: Vec<usize> = Vec::new();
+
+    for (token, place) in stream {
+        listed.push((token::number(&token), to_pair(place)));
+        match token {
+            Token::EOF | Token::LexError(..) => break,
+            Token::InterpolatedString(..) => blocks.push(0),
+            Token::LeftBrace | Token::MapStart => {
+                if let Some(open) = blocks.last_mut() {
+                    *open += 1;
+                }
+            }
+            Token::RightBrace => {
+                if let Some(open) = blocks.last_mut() {
+                    *open -= 1;
+                    if *open == 0 {
+                        blocks.pop();
+                        control.borrow_mut().is_within_text = true;
+                    }
+                }
+            }
+            _ => (),
+        }
+    }
+    listed
+}

@@ -1,0 +1,179 @@
+//! What the copied files name of the rest of the source, as little of it as they use.
+#![allow(clippy::upper_case_acronyms, non_camel_case_types)]
+
+use std::collections::BTreeMap;
+use std::fmt;
+use std::hash::{Hash, Hasher};
+use std::iter::FromIterator;
+use std::ops::{Deref, DerefMut};
+use std::str::FromStr;
+
+pub type INT = i64;
+pub type UNSIGNED_INT = u64;
+pub type FLOAT = f64;
+pub type Identifier = SmartString;
+pub type StaticVec<T> = Vec<T>;
+
+pub mod engine {
+    pub type Precedence = std::num::NonZeroU8;
+}
+
+pub mod func {
+    pub mod native {
+        use crate::tokenizer::TokenizeState;
+        use crate::types::{Position, Token};
+
+        pub type OnParseTokenCallback = dyn Fn(Token, Position, &TokenizeState) -> Token;
+    }
+}
+
+/// An engine with no custom keyword, no disabled symbol and no limit.
+#[derive(Default)]
+pub struct Engine {
+    pub custom_keywords: BTreeMap<Identifier, Option<engine::Precedence>>,
+    pub token_mapper: Option<Box<func::native::OnParseTokenCallback>>,
+}
+
+impl Engine {
+    pub fn is_symbol_disabled(&self, _: &str) -> bool {
+        false
+    }
+
+    pub fn max_string_size(&self) -> usize {
+        0
+    }
+}
+
+/// The faults of the tokenizer, with the text or number that each carries.
+#[derive(Debug, Clone, PartialEq, Eq, Hash)]
+pub enum LexError {
+    UnexpectedInput(String),
+    UnterminatedString,
+    StringTooLong(usize),
+    MalformedEscapeSequence(String),
+    MalformedNumber(String),
+    MalformedChar(String),
+    MalformedIdentifier(String),
+    ImproperSymbol(String, String),
+}
+
+impl LexError {
+    /// The part of the text that the fault is about, empty where it names none.
+    pub fn part(&self) -> &str {
+        match self {
+            Self::UnterminatedString | Self::StringTooLong(_) => "",
+            Self::UnexpectedInput(part)
+            | Self::MalformedEscapeSequence(part)
+            | Self::MalformedNumber(part)
+            | Self::MalformedChar(part)
+            | Self::MalformedIdentifier(part)
+            | Self::ImproperSymbol(part, _) => part,
+        }
+    }
+}
+
+impl fmt::Display for LexError {
+    fn fmt(&self, f: &mut fmt::Formatter<'_>) -> fmt::Result {
+        fmt::Debug::fmt(self, f)
+    }
+}
+
+/// A string that is not `String`, since the source converts a token into either.
+#[derive(Debug, Clone, PartialEq, Eq, PartialOrd, Ord, Hash, Default)]
+pub struct SmartString(String);
+
+pub fn new_smart_string() -> SmartString {
+    SmartString::default()
+}
+
+impl SmartString {
+    pub fn clear(&mut self) {
+        self.0.clear();
+    }
+}
+
+impl Deref for SmartString {
+    type Target = String;
+
+    fn deref(&self) -> &String {
+        &self.0
+    }
+}
+
+impl DerefMut for SmartString {
+    fn deref_mut(&mut self) -> &mut String {
+        &mut self.0
+    }
+}
+
+impl std::borrow::Borrow<str> for SmartString {
+    fn borrow(&self) -> &str {
+        &self.0
+    }
+}
+
+impl From<&str> for SmartString {
+    fn from(text: &str) -> Self {
+        Self(text.into())
+    }
+}
+
+impl From<String> for SmartString {
+    fn from(text: String) -> Self {
+        Self(text)
+    }
+}
+
+impl From<SmartString> for String {
+    fn from(text: SmartString) -> Self {
+        text.0
+    }
+}
+
+impl FromIterator<char> for SmartString {
+    fn from_iter<I: IntoIterator<Item = char>>(chars: I) -> Self {
+        Self(chars.into_iter().collect())
+    }
+}
+
+impl PartialEq<str> for SmartString {
+    fn eq(&self, text: &str) -> bool {
+        self.0 == text
+    }
+}
+
+impl PartialEq<&str> for SmartString {
+    fn eq(&self, text: &&str) -> bool {
+        self.0 == *text
+    }
+}
+
+impl fmt::Display for SmartString {
+    fn fmt(&self, f: &mut fmt::Formatter<'_>) -> fmt::Result {
+        f.write_str(&self.0)
+    }
+}
+
+/// A floating-point number that can be hashed.
+#[derive(Debug, Clone, PartialEq)]
+pub struct FloatWrapper<F>(F);
+
+impl Hash for FloatWrapper<FLOAT> {
+    fn hash<H: Hasher>(&self, state: &mut H) {
+        self.0.to_bits().hash(state);
+    }
+}
+
+impl FromStr for FloatWrapper<FLOAT> {
+    type Err = <FLOAT as FromStr>::Err;
+
+    fn from_str(text: &str) -> Result<Self, Self::Err> {
+        text.parse().map(Self)
+    }
+}
+
+impl fmt::Display for FloatWrapper<FLOAT> {
+    fn fmt(&self, f: &mut fmt::Formatter<'_>) -> fmt::Result {
+        fmt::Display::fmt(&self.0, f)
+    }
+}
