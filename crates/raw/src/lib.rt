@@ -292,8 +292,8 @@ pub fn write(text: &[u8], start: Cursor, hashes: usize, len: usize, out: &mut [u
     let Opened::At(_, from) = opened else {
         return;
     };
-    let at = from.at;
-    lent::copy(&text[at..at + len], &mut *out, 0);
+    let begin = from.at;
+    lent::copy(&text[begin..begin + len], &mut *out, 0);
 }
 
 // Measures, and writes only what is accepted.
