@@ -1,3 +1,4 @@
+pub mod Ends
 pub mod Refusals
 pub mod Returns
 pub mod Turns
