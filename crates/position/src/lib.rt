@@ -1,4 +1,4 @@
-// Places in a script, a line and a column of at most 65,535 each: the type Position of types/position.rs, its sum, and its moves for the scanners.
+// Places in a script, a line and a column of at most 65,535 each: the type Position of types/position.rs, and its moves for the scanners.
 ghost use Prim.Native.Nat.{_-_, _≤_};
 ghost use mathlib.Core.Path.{_≡_};
 ghost use Rattle.position.specs.Place.{
@@ -17,7 +17,6 @@ ghost use Rattle.position.specs.Place.{
   orElse,
   newOf,
 };
-ghost use Rattle.position.specs.Sum.{sumOn, sumOf};
 
 pub struct Position {
     // 0 is no line.
@@ -72,22 +71,6 @@ fn numbered(p: Position, n: u16) -> Coordinate
     } else {
         Coordinate::Some(n as usize)
     }
-}
-
-// The sum of two columns, on the line that the sum has.
-fn sum_on(line: u16, c: u16, d: u16) -> Placed
-    ensures { λ r. ⌜ r ≡ sumOn line c d ⌝ }
-{
-    if d == 0 {
-        return Placed::At(Position { line, pos: c });
-    }
-    if 65535 - c < d {
-        return Placed::Refused(15);
-    }
-    Placed::At(Position {
-        line,
-        pos: c + d - 1,
-    })
 }
 
 impl Position {
@@ -164,25 +147,6 @@ impl Position {
             return pos;
         }
         self
-    }
-
-    // The Rust's Add. It is refused where the Rust would panic, wrap, or answer a place that is none.
-    pub fn sum(self, rhs: Position) -> Placed
-        ensures { λ r. ⌜ r ≡ sumOf self rhs ⌝ }
-    {
-        if rhs.is_none() {
-            return Placed::At(self);
-        }
-        if self.line == 0 {
-            return Placed::Refused(15);
-        }
-        if rhs.line == 0 {
-            return Placed::Refused(15);
-        }
-        if 65535 - self.line < rhs.line {
-            return Placed::Refused(15);
-        }
-        sum_on(self.line + rhs.line - 1, self.pos, rhs.pos)
     }
 
     // The moves with no refusal, for a scan whose start was found good.

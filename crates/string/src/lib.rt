@@ -175,7 +175,7 @@ pub fn write(text: &[u8], from: Cursor, q: u32, out: &mut [u8])
         let Step::Go(d, next, r) = string_turn::act(text, q, start, c, here, s) else {
             return;
         };
-        n = utf8::put(d, &mut *out, n);
+        n = encoder::put(d, &mut *out, n);
         at = next;
         s = r;
     }

@@ -8,6 +8,5 @@ pub mod Leads
 pub mod Goes
 pub mod Laws
 pub mod Edges
-pub mod Puts
 pub mod Unicode
 pub mod Examples

@@ -6,11 +6,11 @@ use mathlib.Core.List.{List}
 use mathlib.Core.Path.{_≡_, sym, _∙_}
 use lib.ListN.{length}
 use borrow.Author.Needs.{needs}
 use Rattle.utf8.specs.Encode.{isScalar, encode}
 use Rattle.utf8.proofs.Encodes.{scalar-small}
-use Rattle.utf8.proofs.Puts.{put-whole, put-none, put-other}
-use Rattle.utf8.proofs.put.Statement.{statement}
-use Rattle.utf8.proofs.put.Tie as tie
+use Rattle.encoder.proofs.Puts.{put-whole, put-none, put-other}
+use Rattle.encoder.proofs.put.Statement.{statement}
+use Rattle.encoder.proofs.put.Tie as tie
 
 -- where the number is a scalar value
 module _ (k : tie.Then1) where

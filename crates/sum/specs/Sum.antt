@@ -2,11 +2,11 @@
 use Prim.Native.Nat.{ℕ, _+_, _-_}
 use mathlib.Core.Bool.{Bool}
 use lib.Dec.{ltb, eqb}
-use Rattle.basis.specs.Pick.{pick, both, isnt}
-use Rattle.position.specs.Place.{place, isNone, onLine}
+use Rattle.basis.specs.Pick.{pick, both}
+use Rattle.position.specs.Place.{given, isNone, onLine}
 use Rattle.position.specs.declared.Position.{Position}
 use Rattle.position.specs.declared.Placed.{Placed}
 use Rattle.position.specs.declared.Placed.the-variants.{At, Refused}
 
 -- a sum passes 65,535 before its minus one
 unfoldable pub passes : ℕ → ℕ → Bool
@@ -15,14 +15,19 @@ passes a b = ltb 65535 (a + b)
 -- the columns on a line: column 0 on the right forms no sum
 unfoldable pub sumOn : ℕ → ℕ → ℕ → Placed
 sumOn line c d =
-    pick (eqb d 0) (At (place line c))
+    pick (eqb d 0) (At (given line c))
     (pick (passes c d) (Refused 15)
-    (At (place line (c + d - 1))))
+    (At (given line (c + d - 1))))
+
+-- the sum of two places on lines
+unfoldable pub sumLines : Position → Position → Placed
+sumLines p q =
+    pick (passes (p .line) (q .line)) (Refused 15)
+    (sumOn (p .line + q .line - 1) (p .pos) (q .pos))
 
 -- the sum: NONE on the right gives the left; else 15 where a side is on line 0, or where a sum passes
 unfoldable pub sumOf : Position → Position → Placed
 sumOf p q =
     pick (isNone q) (At p)
-    (pick (isnt (both (onLine p) (onLine q))) (Refused 15)
-    (pick (passes (p .line) (q .line)) (Refused 15)
-    (sumOn (p .line + q .line - 1) (p .pos) (q .pos))))
+    (pick (both (onLine p) (onLine q)) (sumLines p q)
+    (Refused 15))

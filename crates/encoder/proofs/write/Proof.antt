@@ -3,10 +3,10 @@ use Prim.Native.Nat.{_+_, _≤_}
 use native.Mathlib.Omega.{arith}
 use native.Mathlib.Numerals.{towards-suc}
 use lib.ListN.{length, length-set}
 use Rattle.utf8.proofs.Encodes.{enc1, enc2, enc3, enc4}
 use borrow.Author.Needs.{needs}
-use Rattle.utf8.proofs.write.Statement.{statement}
-use Rattle.utf8.proofs.write.Tie as tie
+use Rattle.encoder.proofs.write.Statement.{statement}
+use Rattle.encoder.proofs.write.Tie as tie
 
 -- the room that there is, by the encoding's length
 room1 : (c : tie.Then1) → c .before .args .at + 1 ≤ length (c .before .args .out .now)

@@ -1,7 +1,7 @@
 -- The tests are those of the encoding.
 use Rattle.utf8.proofs.Encodes.{enc1, enc2, enc3, enc4}
-use Rattle.utf8.proofs.size.Statement.{statement}
-use Rattle.utf8.proofs.size.Tie as tie
+use Rattle.encoder.proofs.size.Statement.{statement}
+use Rattle.encoder.proofs.size.Tie as tie
 
 pub size-spec : {M : Type 1} → statement M
 size-spec =
