@@ -1,0 +1,25 @@
+-- The row that the export writes, from what its calls tell. Assumes nothing.
+use Prim.Native.Nat.{ℕ}
+use mathlib.Core.List.{List}
+use mathlib.Core.Path.{_≡_, refl}
+use lib.ListN.{length}
+use Rattle.position.specs.Place.{given}
+use Rattle.position.specs.declared.Position.{Position}
+use Rattle.identifier.specs.Identifiers.{identifierOf}
+use Rattle.identifier.specs.declared.Identified.{Identified}
+use Rattle.identifier.specs.declared.Identified.the-variants.{Found, Refused}
+use Rattle.c_identifier.specs.Row.{listed, rowOf}
+
+listed-long : (s : Identified) → length (listed s) ≡ 8
+unfolding listed
+listed-long (Found w) = refl
+listed-long (Refused f c) = refl
+
+module _ (t : List ℕ) (at l c : ℕ) (book : List ℕ) where
+  pub row-long : length (rowOf t at l c book) ≡ 8
+  unfolding rowOf
+  row-long = listed-long (identifierOf t at (given l c) book)
+
+  pub row-is : {p : Position} {s : Identified} {r : List ℕ} → p ≡ given l c → s ≡ identifierOf t at p book → r ≡ listed s → r ≡ rowOf t at l c book
+  unfolding rowOf
+  row-is e f g = rw (g, f, e)

@@ -1,0 +1,44 @@
+-- A literal's scan answered by its row, for each way out of a C name: the memory lent for the row is too short, or is not. Assumes nothing.
+use Prim.Native.Nat.{ℕ, _≤_, _<_}
+use mathlib.Core.List.{List}
+use mathlib.Core.Path.{_≡_, refl, _∙_}
+use lib.ListN.{length, getD}
+use Rattle.literal.specs.Cut.{wrote}
+use Rattle.literal.specs.Trace.{Trace}
+use Rattle.literal.specs.declared.Scanned.{Scanned}
+use Rattle.numbers.specs.Answer.{returned, answered}
+use Rattle.numbers.proofs.Answers as row
+use Rattle.c_literal.specs.Row.{rowOf, Answers}
+
+module _ (s : Scanned) (answer : List ℕ) where
+  -- eleven numbers
+  long : length (rowOf s) ≡ 11
+  unfolding rowOf
+  long = refl
+
+  module _ (h : length answer < 88) where
+    pub short-returns : 9 ≡ returned (rowOf s) answer
+    short-returns = row.short-returns 11 (rowOf s) answer long h
+
+    pub short-leaves : answer ≡ answered (rowOf s) answer
+    short-leaves = row.short-leaves 11 (rowOf s) answer long h
+
+    pub too-short : (t : Trace) (out : List ℕ) → Answers s t out answer 9 out answer
+    too-short t out = record { number = short-returns; body = row.short-beside 11 (rowOf s) answer long h out (wrote s t out); row = short-leaves }
+
+  module _ (h : 88 ≤ length answer) where
+    pub long-returns : getD (rowOf s) 0 0 ≡ returned (rowOf s) answer
+    long-returns = row.long-returns 11 (rowOf s) answer long h
+
+    pub in-full : (t : Trace) {s′ : Scanned} {out out′ answer′ : List ℕ} {r : ℕ}
+        → s′ ≡ s
+        → out′ ≡ wrote s′ t out
+        → r ≡ returned (rowOf s′) answer
+        → answer′ ≡ answered (rowOf s′) answer
+        → Answers s t out answer r out′ answer′
+    in-full t {out = out} k e f g =
+        record {
+          number = rw k at f;
+          body = rw k at e ∙ row.long-beside 11 (rowOf s) answer long h out (wrote s t out);
+          row = rw k at g;
+        }

@@ -1,0 +1,47 @@
+// Raw string literals through C: `parse_raw_string_literal`, entered or resumed, on numbers and byte slices.
+ghost use Rattle.c_literal.specs.Row.{Answers};
+ghost use Rattle.c_raw.specs.Scans.{parsing, parsed, resuming, resumed};
+use position::Position;
+
+// The body goes to `out`, and the row of eleven numbers to `answer`. Where that is too short for the row, nothing is scanned.
+#[no_mangle]
+pub extern "C" fn stew_parse_raw_string_literal(
+    text: &[u8],
+    at: usize,
+    line: u16,
+    column: u16,
+    limit: usize,
+    out: &mut [u8],
+    answer: &mut [u8],
+) -> u32
+    ensures { λ r. ⌜ Answers (parsed (now (text .entry)) at line column limit (now (out .entry))) (parsing (now (text .entry)) at line column) (now (out .entry)) (now (answer .entry)) r (now (out .exit)) (now (answer .exit)) ⌝ }
+{
+    if answer.len() < 88 {
+        return 9;
+    }
+    let place = Position::given(line, column);
+    let scanned = raw::parse_raw_string_literal(text, at, place, limit, &mut *out);
+    c_literal::answer(scanned, &mut *answer)
+}
+
+// The same from anywhere in the body of a literal that so many hashes close.
+#[no_mangle]
+pub extern "C" fn stew_resume_raw_string_literal(
+    text: &[u8],
+    at: usize,
+    line: u16,
+    column: u16,
+    hashes: usize,
+    limit: usize,
+    out: &mut [u8],
+    answer: &mut [u8],
+) -> u32
+    ensures { λ r. ⌜ Answers (resumed (now (text .entry)) at line column hashes limit (now (out .entry))) (resuming (now (text .entry)) at line column hashes) (now (out .entry)) (now (answer .entry)) r (now (out .exit)) (now (answer .exit)) ⌝ }
+{
+    if answer.len() < 88 {
+        return 9;
+    }
+    let place = Position::given(line, column);
+    let scanned = raw::resume_raw_string_literal(text, at, place, hashes, limit, &mut *out);
+    c_literal::answer(scanned, &mut *answer)
+}

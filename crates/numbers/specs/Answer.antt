@@ -1,0 +1,25 @@
+-- A C name that answers by a row of numbers, 8 bytes each, in lent memory: where that is shorter than the row, nothing is written anywhere and 9 is returned.
+use Prim.Native.Nat.{ℕ}
+use mathlib.Core.Bool.{Bool}
+use mathlib.Core.List.{List}
+use lib.Dec.{ltb}
+use lib.ListN.{length, getD}
+use Rattle.basis.specs.Pick.{pick}
+use Rattle.lent.specs.Written.{leftOf}
+use Rattle.numbers.specs.Spell.{spelled}
+
+-- the memory is shorter than the row
+unfoldable pub short : List ℕ → List ℕ → Bool
+short row memory = ltb (length memory) (length (spelled 8 row))
+
+-- what is returned: the row's first number, or 9
+unfoldable pub returned : List ℕ → List ℕ → ℕ
+returned row memory = pick (short row memory) 9 (getD row 0 0)
+
+-- what the memory holds then: the row in front and the old rest, or what it held
+abbrev pub answered : List ℕ → List ℕ → List ℕ
+answered row memory = leftOf (spelled 8 row) memory
+
+-- what other memory holds then: what the work leaves there, or what it held
+unfoldable pub beside : List ℕ → List ℕ → List ℕ → List ℕ → List ℕ
+beside row memory old new = pick (short row memory) old new

@@ -1,0 +1,13 @@
+-- Numbers as little-endian bytes, alone and in a row: document 01, "entries cross there as little-endian bytes, four per number".
+use Prim.Native.Nat.{ℕ, zero, suc, _/_, _%_}
+use mathlib.Core.List.{List, [], _∷_, _++_}
+
+-- a number in w bytes, the lowest first; what w bytes cannot hold is left out
+unfoldable pub spell : ℕ → ℕ → List ℕ
+spell zero n = []
+spell (suc w) n = n % 256 ∷ spell w (n / 256)
+
+-- a row of numbers, w bytes each
+unfoldable pub spelled : ℕ → List ℕ → List ℕ
+spelled w [] = []
+spelled w (n ∷ ns) = spell w n ++ spelled w ns
