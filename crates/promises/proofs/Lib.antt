@@ -1,0 +1,7 @@
+pub mod Counts
+pub mod Places
+pub mod Readings
+pub mod RoundTrip
+pub mod Standing
+pub mod Shutting
+pub mod Calls

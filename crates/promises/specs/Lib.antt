@@ -1,0 +1,2 @@
+pub mod LiteralPlaces
+pub mod RoundTrip

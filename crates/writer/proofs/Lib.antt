@@ -1,0 +1,4 @@
+pub mod Hashes
+pub mod Leasts
+pub mod Writes
+pub mod Returns
