@@ -15,13 +15,23 @@ fn main() -> ExitCode {
 
 #[cfg(all(rhai_source, not(stew_archive)))]
 fn main() -> ExitCode {
-    eprintln!("compare: the archive is missing: build it with `rt staticlib c_names`");
+    let missing = env!("STEW_MISSING");
+    eprintln!("compare: archives are missing: {}", missing);
+    eprintln!("compare: `rt staticlib NAME` builds one, `tools/compare` all");
     ExitCode::from(2)
 }
 
 #[cfg(all(rhai_source, stew_archive))]
 fn main() -> ExitCode {
-    let report = compare::report::Report::default();
-    print!("{}", report);
-    report.exit_code()
+    match compare::size::Size::asked(std::env::args().skip(1)) {
+        Some(size) => {
+            let report = compare::compare(size);
+            print!("{}", report);
+            report.exit_code()
+        }
+        None => {
+            eprintln!("usage: compare [--all]");
+            ExitCode::from(2)
+        }
+    }
 }

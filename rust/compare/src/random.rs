@@ -28,10 +28,10 @@ impl Random {
         things[self.below(things.len())]
     }
 
-    /// A text of up to `longest` characters over the alphabet.
-    pub fn text(&mut self, alphabet: &[char], longest: usize) -> String {
+    /// A text of up to `longest` of the pieces.
+    pub fn text(&mut self, pieces: &[&str], longest: usize) -> String {
         let length = self.below(longest + 1);
-        (0..length).map(|_| self.one_of(alphabet)).collect()
+        (0..length).map(|_| self.one_of(pieces)).collect()
     }
 
     /// A copy with one byte changed, dropped or put in.
@@ -72,7 +72,7 @@ mod tests {
         let mut random = Random::new(1);
         let mut seen = [false; 4];
         for _ in 0..100 {
-            seen[random.text(&['a', 'é'], 3).chars().count()] = true;
+            seen[random.text(&["a", "é"], 3).chars().count()] = true;
         }
         assert_eq!(seen, [true; 4]);
     }

@@ -1,4 +1,4 @@
-//! Every short input over a small alphabet.
+//! Every short input over a small alphabet, and every input close to a given one.
 
 /// Visits every list of up to `longest` things, shorter lists first.
 pub fn each_list<T: Copy>(things: &[T], longest: usize, visit: &mut dyn FnMut(&[T])) {
@@ -29,6 +29,22 @@ pub fn each_text(alphabet: &[char], longest: usize, visit: &mut dyn FnMut(&str))
     });
 }
 
+/// Visits every copy with one byte changed, put in or dropped; the input itself among them.
+pub fn each_edit(bytes: &[u8], visit: &mut dyn FnMut(&[u8])) {
+    for at in 0..=bytes.len() {
+        let (front, back) = bytes.split_at(at);
+        for byte in 0..=255 {
+            visit(&[front, &[byte], back].concat());
+            if let Some((_, rest)) = back.split_first() {
+                visit(&[front, &[byte], rest].concat());
+            }
+        }
+        if let Some((_, rest)) = back.split_first() {
+            visit(&[front, rest].concat());
+        }
+    }
+}
+
 #[cfg(test)]
 mod tests {
     use super::*;
@@ -45,5 +61,25 @@ mod tests {
         let mut lists = 0;
         each_list::<u8>(&[], 3, &mut |_| lists += 1);
         assert_eq!(lists, 1);
+    }
+
+    #[test]
+    fn edits_are_of_one_byte() {
+        let mut edits = Vec::new();
+        each_edit(b"ab", &mut |edit| edits.push(edit.to_vec()));
+        assert_eq!(edits.len(), 2 * 256 + 3 * 256 + 2);
+        for edit in [
+            &b"ab"[..],
+            b"xb",
+            b"a\xff",
+            b"xab",
+            b"axb",
+            b"abx",
+            b"a",
+            b"b",
+        ] {
+            assert!(edits.iter().any(|found| found == edit), "{:?}", edit);
+        }
+        assert!(edits.iter().all(|edit| (1..=3).contains(&edit.len())));
     }
 }

@@ -70,3 +70,15 @@ pub fn debug(place: Place) -> String {
 pub fn span_display(start: Place, end: Place) -> String {
     Span::new(from_pair(start), from_pair(end)).to_string()
 }
+
+pub fn span_start(start: Place, end: Place) -> Place {
+    to_pair(Span::new(from_pair(start), from_pair(end)).start())
+}
+
+pub fn span_end(start: Place, end: Place) -> Place {
+    to_pair(Span::new(from_pair(start), from_pair(end)).end())
+}
+
+pub fn span_is_none(start: Place, end: Place) -> bool {
+    Span::new(from_pair(start), from_pair(end)).is_none()
+}

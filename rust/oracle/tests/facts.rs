@@ -183,6 +183,10 @@ fn forms_of_positions_and_spans() {
     assert_eq!(position::span_display((1, 9), (1, 15)), "1:9-15");
     assert_eq!(position::span_display((1, 9), (2, 0)), "1:9-2");
     assert_eq!(position::span_display((0, 0), (2, 3)), "..2:3");
+    assert_eq!(position::span_start((1, 9), (2, 3)), (1, 9));
+    assert_eq!(position::span_end((1, 9), (2, 3)), (2, 3));
+    assert!(position::span_is_none(position::NONE, position::NONE));
+    assert!(!position::span_is_none(position::NONE, (0, 1)));
 }
 
 #[test]

@@ -1,0 +1,222 @@
+//! What the Rust reads of a literal, and what that tells about rooms, which it does not have.
+//!
+//! Document 01 asks for 9 as soon as the bytes of one step pass the room: before the 7 of that
+//! step, and before any fault that stands later. The Rust's own answers tell where that is.
+//!
+//! - A literal that it accepts with no limit, with a body of n bytes, passes the rooms below n.
+//! - A literal that it refuses (4, 5, 6) passes a room exactly where it answers 7 under a limit of
+//!   as many bytes. It tests the limit behind every step, a string's with the next character
+//!   taken. Two texts have to be changed for that. Where the end comes next and is 4, nothing is
+//!   tested: one more terminator behind the text is a next character. And a limit of 0 is none:
+//!   one more plain character in front makes it 1.
+//! - Where the limit is below the room, and both are passed, the 7 comes first, unless one step
+//!   passes both: then the Rust gives the 7 of either limit at the same offset.
+
+use crate::place::Place;
+use crate::start::Start;
+use oracle::{raw, string, Accepted, LexError, Refused};
+use std::fmt;
+
+pub type Read = Result<Accepted, Refused>;
+
+/// A scanner of literals, with what it is given beside a start and a limit.
+#[derive(Clone, Copy, PartialEq, Eq)]
+pub enum Scan {
+    /// Entered after the first `#`.
+    Raw,
+    /// Resumed with a hash count.
+    Resumed(usize),
+    /// With a terminator, which need not be a character.
+    String(u32),
+}
+
+impl Scan {
+    /// `None` where the Rust panics, or cannot be asked.
+    fn read(self, text: &str, at: usize, place: Place, limit: usize) -> Option<Read> {
+        match self {
+            Self::Raw => raw::parse_raw_string_literal(text, at, place, 0, limit),
+            Self::Resumed(hashes) => raw::parse_raw_string_literal(text, at, place, hashes, limit),
+            Self::String(terminator) => {
+                let terminator = char::from_u32(terminator)?;
+                string::parse_string_literal(text, at, place, terminator, limit)
+            }
+        }
+    }
+}
+
+impl fmt::Debug for Scan {
+    fn fmt(&self, f: &mut fmt::Formatter<'_>) -> fmt::Result {
+        match *self {
+            Self::Raw => f.write_str("raw"),
+            Self::Resumed(hashes) => write!(f, "raw, {} hashes", hashes),
+            Self::String(terminator) => match char::from_u32(terminator) {
+                Some(terminator) => write!(f, "{:?}", terminator),
+                None => write!(f, "{:x}", terminator),
+            },
+        }
+    }
+}
+
+/// A literal that the Rust has read with no limit.
+pub struct Reading<'a> {
+    scan: Scan,
+    start: Start<'a>,
+    text: &'a str,
+    /// How many bytes the body has, or had where the fault came.
+    added: usize,
+    probe: Probe,
+}
+
+impl<'a> Reading<'a> {
+    /// `None` where the Rust has no answer.
+    pub fn new(scan: Scan, start: Start<'a>) -> Option<Self> {
+        let text = start.str()?;
+        let whole = scan.read(text, start.at, start.place, 0)?;
+        let probe = Probe::new(scan, &text[start.at..], start.place, &whole);
+        let added = match &whole {
+            Ok(accepted) => accepted.body.len(),
+            Err(_) => probe.added(),
+        };
+        Some(Self {
+            scan,
+            start,
+            text,
+            added,
+            probe,
+        })
+    }
+
+    pub fn limited(&self, limit: usize) -> Option<Read> {
+        let Start { at, place, .. } = self.start;
+        self.scan.read(self.text, at, place, limit)
+    }
+
+    /// Whether the room refuses the literal before the limit does, and before any other fault.
+    pub fn is_full(&self, limit: usize, room: usize) -> bool {
+        let first = || self.probe.passed_at(limit) == self.probe.passed_at(room);
+        self.added > room && (limit == 0 || room <= limit || first())
+    }
+}
+
+/// A literal with the same body, but for some bytes in front, in which the Rust tests the limit
+/// behind every step.
+struct Probe {
+    scan: Scan,
+    text: String,
+    place: Place,
+    front: usize,
+}
+
+impl Probe {
+    fn new(scan: Scan, text: &str, place: Place, whole: &Read) -> Self {
+        let is_open = match whole {
+            Ok(accepted) => accepted.record.is_some(),
+            Err(refused) => refused.fault == LexError::UnterminatedString,
+        };
+        let (front, closing) = match scan {
+            Scan::String(terminator) => ("a", char::from_u32(terminator).filter(|_| is_open)),
+            // It tests the limit at the end of a step, and is refused only before the first.
+            Scan::Raw | Scan::Resumed(_) => ("", None),
+        };
+        let text = front.chars().chain(text.chars()).chain(closing).collect();
+        Self {
+            scan,
+            text,
+            place,
+            front: front.len(),
+        }
+    }
+
+    /// The offset at which the Rust finds that the body has more bytes than these.
+    fn passed_at(&self, bytes: usize) -> Option<usize> {
+        let limit = self.front + bytes;
+        match self.scan.read(&self.text, 0, self.place, limit)? {
+            Err(read) if matches!(read.fault, LexError::StringTooLong(_)) => Some(read.offset),
+            _ => None,
+        }
+    }
+
+    /// The least number of bytes that is not passed. No body has more bytes than its text.
+    fn added(&self) -> usize {
+        let (mut least, mut most) = (0, self.text.len());
+        while least < most {
+            let middle = (least + most) / 2;
+            match self.passed_at(middle) {
+                Some(_) => least = middle + 1,
+                None => most = middle,
+            }
+        }
+        least
+    }
+}
+
+#[cfg(test)]
+mod tests {
+    use super::*;
+    use crate::texts::each_text;
+
+    const QUOTE: Scan = Scan::String(0x22);
+    const APOSTROPHE: Scan = Scan::String(0x27);
+    const BACKTICK: Scan = Scan::String(0x60);
+
+    fn reading(scan: Scan, text: &str) -> Reading<'_> {
+        Reading::new(scan, Start::front(text, (1, 1))).expect("no panic")
+    }
+
+    fn added(scan: Scan, text: &str) -> usize {
+        reading(scan, text).added
+    }
+
+    #[test]
+    fn bodies_of_refused_literals() {
+        // 4 at the end, where nothing is tested any more.
+        assert_eq!(added(QUOTE, ""), 0);
+        assert_eq!(added(QUOTE, "aé"), 3);
+        assert_eq!(added(QUOTE, "a\"\""), 2);
+        assert_eq!(added(QUOTE, "a\\\n"), 1);
+        assert_eq!(added(APOSTROPHE, "ab\\"), 2);
+        // 4 at a line feed, and 6.
+        assert_eq!(added(QUOTE, "ab\nc"), 2);
+        assert_eq!(added(QUOTE, "ab\\q\""), 2);
+        assert_eq!(added(QUOTE, "\\x4"), 0);
+        // A raw literal without its quote.
+        assert_eq!(added(Scan::Raw, "#a"), 0);
+    }
+
+    #[test]
+    fn a_probe_finds_the_body_of_an_accepted_string() {
+        let alphabet = ['"', '\'', '`', '$', '{', '\\', '\n', '\r', 'n', 'é'];
+        each_text(&alphabet, 4, &mut |text| {
+            for scan in [QUOTE, APOSTROPHE, BACKTICK] {
+                let reading = reading(scan, text);
+                if let Some(Ok(accepted)) = reading.limited(0) {
+                    let found = reading.probe.added();
+                    assert_eq!(found, accepted.body.len(), "{:?} {:?}", scan, text);
+                }
+            }
+        });
+    }
+
+    #[test]
+    fn the_room_comes_first_where_one_step_passes_both() {
+        // The pending quote and the `é` are one step of three bytes.
+        let raw = reading(Scan::Resumed(1), "a\"éa");
+        assert!(raw.is_full(1, 2) && raw.is_full(1, 3));
+        assert!(!raw.is_full(1, 4) && raw.is_full(4, 4));
+        assert!(!raw.is_full(0, 5));
+
+        let text = reading(BACKTICK, "aéb");
+        assert!(text.is_full(1, 2) && !text.is_full(1, 3));
+    }
+
+    #[test]
+    fn the_end_is_another_step_than_the_last_character() {
+        for place in [(1, 1), (1, 65535)] {
+            let start = Start::front("ab", place);
+            let reading = Reading::new(BACKTICK, start).expect("no panic");
+            assert!(reading.is_full(1, 1) && !reading.is_full(1, 2));
+            let reading = Reading::new(BACKTICK, Start::front("abc", place)).expect("no panic");
+            assert!(!reading.is_full(1, 2) && reading.is_full(2, 2));
+        }
+    }
+}
