@@ -1,8 +1,5 @@
-pub mod Examples
-pub mod Texts
+pub mod Plain
+pub mod Fits
 pub mod Words
-pub mod Parts
-pub mod Sought
-pub mod Sorted
-pub mod Holds
-pub mod Places
+pub mod Checks
+pub mod Examples

@@ -1,51 +1,31 @@
--- A book's words one by one: where their rows lie, and turns of the loops over them. Assumes nothing.
-use Prim.Native.Nat.{ℕ, suc, _+_, _-_, _*_, _≤_, _<_}
+-- Turns of the loops over a book's words. Assumes nothing.
+use Prim.Native.Nat.{ℕ, _+_, _-_, _*_, _≤_, _<_}
 use native.Mathlib.Omega.{arith}
-use native.Mathlib.Nat.{sub-zero}
-use mathlib.Core.Bool.{Bool, true, false, not}
-use mathlib.Core.List.{List, [], _∷_}
+use mathlib.Core.Bool.{Bool, true, false}
+use mathlib.Core.List.{List, _∷_}
 use mathlib.Core.Path.{_≡_, sym, ap, _∙_}
-use lib.ListN.{length}
-use lib.Dec.{eqb, leb}
-use borrow.Author.Tests.{le-leb, lt-leb, leb-true, eq-eqb, ne-eqb, not-true, not-false}
 use mathlib.Core.Logic.{⊎-elim}
+use lib.Dec.{eqb}
+use lib.ListN.{length}
+use borrow.Author.Tests.{eq-eqb, ne-eqb}
 use Rattle.basis.proofs.Bounds.{split}
-use Rattle.book.specs.Order.{compared, below}
-use Rattle.book.specs.Book.{u16At, count, bodies, startAt, sizeAt, wordAt, wordsFrom, words, enough, few, runsOn, fit, allFit, belowNext, rising, good, checkOf}
-use Rattle.book.specs.declared.Order.{Order}
-use Rattle.book.specs.declared.Order.the-variants.{Less, Equal, Greater}
-
-module _ (book : List ℕ) where
-  -- a book that has enough bytes has every row of its contents
-  pub enough-room : (t : Bool) → t ≡ enough book → not t ≡ false → bodies book ≤ length book
-  unfolding enough
-  enough-room t e y = leb-true (bodies book) (length book) (sym e ∙ not-false t y)
-
-  -- the words from k on, by the first of them
-  module _ (n k : ℕ) where
-    pub from-here : k < n → wordsFrom book k (n - k) ≡ wordAt book k ∷ wordsFrom book (k + 1) (n - (k + 1))
-    unfolding wordsFrom
-    from-here h = let e : n - k ≡ suc (n - (k + 1)) = omega arith in rw e
-
-    pub from-past : n ≤ k → wordsFrom book k (n - k) ≡ []
-    unfolding wordsFrom
-    from-past h = let e : n - k ≡ 0 = omega arith in rw e
-
-  pub from-start : {n : ℕ} → n ≡ count book → words book ≡ wordsFrom book 0 (n - 0)
-  unfolding words
-  from-start e = rw (sub-zero, e)
+use Rattle.order.specs.Order.{compared, below}
+use Rattle.order.specs.declared.Order.{Order}
+use Rattle.order.specs.declared.Order.the-variants.{Less, Equal, Greater}
+use Rattle.contents.specs.Contents.{count, bodies, startAt, sizeAt, wordAt, wordsFrom, words}
+use Rattle.contents.proofs.Words.{from-here, from-past, from-start}
+use Rattle.book.specs.Book.{runsOn, fit, allFit, belowNext, rising}
 
 -- the first k of n words run on, up to the index at
 pub record Running (book : List ℕ) (n at k : ℕ) : Type 0 where
   pub all : n ≡ count book
-  pub some : n < 65536
+  pub some : n ≤ 512
   pub within : k ≤ n
   pub small : at ≤ 2 + 4 * n + 255 * k
   pub rest : runsOn (length book) (bodies book) (words book) ≡ runsOn (length book) at (wordsFrom book k (n - k))
 
 module _ (book : List ℕ) (n : ℕ) where
-  pub running-start : n ≡ u16At book 0 → n < 65536 → Running book n (2 + 4 * n) 0
-  unfolding count
+  pub running-start : n ≡ count book → n ≤ 512 → Running book n (2 + 4 * n) 0
   running-start e h = record {
     all = e;
     some = h;
@@ -81,8 +61,7 @@ pub record Fitting (book : List ℕ) (n k : ℕ) : Type 0 where
   pub rest : allFit (words book) ≡ allFit (wordsFrom book k (n - k))
 
 module _ (book : List ℕ) (n : ℕ) where
-  pub fitting-start : n ≡ u16At book 0 → Fitting book n 0
-  unfolding count
+  pub fitting-start : n ≡ count book → Fitting book n 0
   fitting-start e = record { all = e; within = omega arith; rest = ap allFit (from-start book e) }
 
   module _ (k : ℕ) (r : Fitting book n k) where
@@ -106,8 +85,7 @@ pub record Mounting (book : List ℕ) (n k : ℕ) : Type 0 where
   pub rest : rising (words book) ≡ rising (wordsFrom book k (n - k))
 
 module _ (book : List ℕ) (n : ℕ) where
-  pub mounting-start : n ≡ u16At book 0 → Mounting book n 0
-  unfolding count
+  pub mounting-start : n ≡ count book → Mounting book n 0
   mounting-start e = record { all = e; within = omega arith; rest = ap rising (from-start book e) }
 
   module _ (k : ℕ) (r : Mounting book n k) where
@@ -134,37 +112,3 @@ module _ (book : List ℕ) (n : ℕ) where
         where
           up : wordsFrom book (k + 1) (n - (k + 1)) ≡ wordAt book (k + 1) ∷ wordsFrom book (k + 1 + 1) (n - (k + 1 + 1)) → rising (wordAt book k ∷ wordsFrom book (k + 1) (n - (k + 1))) ≡ rising (wordsFrom book (k + 1) (n - (k + 1)))
           up p = rw (p, ← d, ← e, ← f, g)
-
-few-is : (book : List ℕ) {n : ℕ} → n ≡ u16At book 0 → few book ≡ leb n 512
-unfolding few count
-few-is book e = rw e
-
--- the book check, condition by condition
-module _ (book : List ℕ) (t : Bool) (e : t ≡ enough book) where
-  pub not-enough : not t ≡ true → 14 ≡ checkOf book
-  unfolding checkOf good
-  not-enough g = rw (← e, not-true t g)
-
-  module _ (y : not t ≡ false) (n : ℕ) (c : n ≡ u16At book 0) where
-    pub too-many : 512 < n → 14 ≡ checkOf book
-    unfolding checkOf good
-    too-many g = rw (← e, not-false t y, few-is book c, lt-leb n 512 g)
-
-    module _ (h : n ≤ 512) (r : Bool) (d : r ≡ runsOn (length book) (bodies book) (words book)) where
-      pub not-running : not r ≡ true → 14 ≡ checkOf book
-      unfolding checkOf good
-      not-running g = rw (← e, not-false t y, few-is book c, le-leb n 512 h, ← d, not-true r g)
-
-      module _ (z : not r ≡ false) (f : Bool) (b : f ≡ allFit (words book)) where
-        pub not-all-fit : not f ≡ true → 14 ≡ checkOf book
-        unfolding checkOf good
-        not-all-fit g = rw (← e, not-false t y, few-is book c, le-leb n 512 h, ← d, not-false r z, ← b, not-true f g)
-
-        module _ (a : not f ≡ false) (u : Bool) (i : u ≡ rising (words book)) where
-          pub not-rising : not u ≡ true → 14 ≡ checkOf book
-          unfolding checkOf good
-          not-rising g = rw (← e, not-false t y, few-is book c, le-leb n 512 h, ← d, not-false r z, ← b, not-false f a, ← i, not-true u g)
-
-          pub all-right : not u ≡ false → 0 ≡ checkOf book
-          unfolding checkOf good
-          all-right g = rw (← e, not-false t y, few-is book c, le-leb n 512 h, ← d, not-false r z, ← b, not-false f a, ← i, not-false u g)

@@ -1,4 +1,1 @@
-pub mod Order
 pub mod Book
-pub mod Lookup
-pub mod Halving

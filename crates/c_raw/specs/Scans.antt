@@ -5,7 +5,8 @@ use lib.ListN.{length}
 use Rattle.position.specs.Place.{given}
 use Rattle.literal.specs.Trace.{Trace}
 use Rattle.literal.specs.declared.Scanned.{Scanned}
-use Rattle.raw.specs.Raw.{asSource, parseTrace, parseOf, resumeTrace, resumeOf}
+use Rattle.raw_scan.specs.Raw.{asSource}
+use Rattle.raw.specs.Raw.{parseTrace, parseOf, resumeTrace, resumeOf}
 
 -- entered after the first hash: the reading, and the answer
 unfoldable pub parsing : List ℕ → ℕ → ℕ → ℕ → Trace

@@ -20,14 +20,15 @@ use Rattle.chars.specs.declared.cursor.Cursor.{Cursor}
 use Rattle.chars.specs.declared.cursor.Taken.the-variants as taken
 use Rattle.chars.proofs.Cursors.{Took, got-took, got-ended, further}
 use Rattle.fault.specs.Faults.{fault}
-use Rattle.token.specs.Lookup.{lookupOf}
+use Rattle.keywords.specs.Lookup.{lookupOf}
 use Rattle.token.specs.Tokens as Token
 use Rattle.token.specs.declared.Lookup.{Lookup}
 use Rattle.token.specs.declared.Lookup.the-variants.{Some, None}
 use Rattle.book.specs.Book.{good, checkOf}
-use Rattle.book.specs.Halving.{halvedOf}
-use Rattle.book.specs.Lookup.{reservedOf}
-use Rattle.book.proofs.Holds.{halved, check-good}
+use Rattle.reserved.specs.Halving.{halvedOf}
+use Rattle.reserved.specs.Lookup.{reservedOf}
+use Rattle.book.proofs.Checks.{check-good}
+use Rattle.reserved.proofs.Holds.{halved}
 use Rattle.identifier.specs.Valid.{isValidIdentifier}
 use Rattle.identifier.specs.Identifiers.{kindOf, unlisted, listed, classOf, between, spanned, begun, endFrom, identifyOf, argumentOf, identifierOf}
 use Rattle.identifier.specs.declared.Class.{Class}

@@ -26,12 +26,12 @@ use Rattle.chars.specs.Door.{doorOf}
 use Rattle.chars.specs.Scan.{Turn, go, stop, Rule, runAt}
 use Rattle.chars.specs.declared.cursor.Cursor.{Cursor}
 use Rattle.fault.specs.Faults.{part, fault, malformedIdentifier}
-use Rattle.token.specs.Lookup.{lookupOf}
+use Rattle.keywords.specs.Lookup.{lookupOf}
 use Rattle.token.specs.Tokens as Token
 use Rattle.token.specs.declared.Lookup.{Lookup}
 use Rattle.token.specs.declared.Lookup.the-variants.{Some, None}
 use Rattle.book.specs.Book.{checkOf}
-use Rattle.book.specs.Lookup.{reservedOf}
+use Rattle.reserved.specs.Lookup.{reservedOf}
 use Rattle.identifier.specs.Valid.{isValidIdentifier}
 use Rattle.identifier.specs.declared.Word.{Word}
 use Rattle.identifier.specs.declared.Class.{Class}

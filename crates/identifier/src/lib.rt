@@ -124,7 +124,7 @@ fn unlisted(book: &[u8], word: &[u8]) -> Class
     requires { ⌜ good (now book) ≡ true ⌝ }
     ensures { λ r. ⌜ r ≡ listed (now (book .entry)) (now (word .entry)) Lookup.None ⌝ }
 {
-    if book::lookup_in(book, word).found {
+    if reserved::lookup_in(book, word).found {
         return Class::Is(Word::RESERVED, token::tokens::RESERVED);
     }
     if is_valid_identifier(word) {
@@ -138,7 +138,7 @@ fn class_of(words: &[u8], book: &[u8], word: &[u8]) -> Class
     requires { ⌜ (now words ≡ table) × (good (now book) ≡ true) ⌝ }
     ensures { λ r. ⌜ r ≡ classOf (now (book .entry)) (now (word .entry)) ⌝ }
 {
-    let Lookup::Some(token) = token::lookup_in(words, word) else {
+    let Lookup::Some(token) = keywords::lookup_in(words, word) else {
         return unlisted(book, word);
     };
     Class::Is(kind_of(word), token)

@@ -26,12 +26,12 @@ use Rattle.chars.proofs.Cursors.{ate}
 use Rattle.chars.proofs.Scans.{move-over}
 use Rattle.literal.specs.Trace.{Trace, ends, bytes, final, good}
 use Rattle.literal.specs.declared.End.{End}
-use Rattle.raw.specs.Raw.{lf, asSource, nothing, ended, body, reading, rule}
-use Rattle.raw.specs.Step.{Adds, leftOf}
-use Rattle.raw.specs.declared.Body.{Body}
-use Rattle.raw.proofs.Loops.{went-on}
-use Rattle.raw.proofs.Openings.{counting, hash-on, quote-on}
-use Rattle.raw.proofs.Turns.{quote-adds, hash-closes, hash-adds, line-adds, plain-adds, failed-adds}
+use Rattle.raw_scan.specs.Raw.{lf, asSource, nothing, ended, body, reading, rule}
+use Rattle.raw_scan.specs.Step.{Adds, leftOf}
+use Rattle.raw_scan.specs.declared.Body.{Body}
+use Rattle.raw_scan.proofs.Loops.{went-on}
+use Rattle.raw_scan.proofs.Openings.{counting, hash-on, quote-on}
+use Rattle.raw_scan.proofs.Turns.{quote-adds, hash-closes, hash-adds, line-adds, plain-adds, failed-adds}
 use Rattle.writer.specs.Writer.{quote, hash, hashesAhead, mostAfterQuote}
 use Rattle.writer.proofs.Hashes.{byte-cases, reach}
 use Rattle.promises.specs.LiteralPlaces.{columns, attempts, behindChar, behindAll, behindFirst}

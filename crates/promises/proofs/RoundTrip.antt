@@ -22,11 +22,12 @@ use Rattle.literal.specs.Told.{told}
 use Rattle.literal.specs.declared.End.{End}
 use Rattle.lent.specs.declared.Written.the-variants.{Done}
 use Rattle.literal.specs.declared.Scanned.the-variants.{Accepted}
-use Rattle.raw.specs.Raw.{asSource, nothing, ended, body as bodyState, reading, rule, parseTrace, parseOf, entersOf}
-use Rattle.raw.specs.Step.{leftOf}
+use Rattle.raw_scan.specs.Raw.{asSource, nothing, ended, body as bodyState, reading, rule}
+use Rattle.raw.specs.Raw.{parseTrace, parseOf, entersOf}
+use Rattle.raw_scan.specs.Step.{leftOf}
 use Rattle.raw.proofs.Limits.{parse-uncut}
-use Rattle.raw.proofs.Openings.{is-fresh}
-use Rattle.raw.proofs.Parts.{stands-there}
+use Rattle.raw_scan.proofs.Openings.{is-fresh}
+use Rattle.raw_scan.proofs.Parts.{stands-there}
 use Rattle.raw.proofs.Refusals.{on-line, reads-on}
 use Rattle.writer.specs.Writer.{quote, hash, mostAfterQuote, hashesFor, literalOf, rawWriteOf, rawLeftOf}
 use Rattle.writer.proofs.Hashes.{reach}

@@ -7,7 +7,7 @@ use Rattle.basis.specs.Pick.{pick, both, either, isnt}
 use Rattle.position.specs.declared.Position.{Position}
 use Rattle.position.specs.Place.{advanced, lined}
 use Rattle.utf8.specs.Table.{chars, codes}
-use Rattle.raw.specs.Raw.{quote, hash, lf}
+use Rattle.raw_scan.specs.Raw.{quote, hash, lf}
 use Rattle.writer.specs.Writer.{hashesFor}
 
 -- n columns on

@@ -1,8 +1,3 @@
 pub mod Returns
-pub mod Turns
-pub mod Openings
-pub mod Loops
-pub mod Parts
-pub mod Readings
-pub mod Limits
 pub mod Refusals
+pub mod Limits

@@ -1,4 +1,4 @@
--- Demand 3 for raw literals: every test of the limit refuses with 7, and no rule of their own with 7 or 9; so a limit and a room only cut the reading. Assumes nothing.
+-- Demand 3 for raw literals: a limit and a room only cut the reading. Assumes nothing.
 use Prim.Native.Nat.{ℕ, _≤_}
 use native.Mathlib.Omega.{arith}
 use mathlib.Core.Bool.{Bool, false}
@@ -19,21 +19,16 @@ use Rattle.literal.specs.declared.End.{End}
 use Rattle.literal.specs.declared.Refusal.{Refusal}
 use Rattle.literal.specs.declared.Scanned.the-variants.{Accepted, Refused}
 use Rattle.literal.proofs.Limits.{accepted-whole, uncut-within, recurs-whole, cut-at-the-first}
-use Rattle.raw.specs.Raw.{entered, readOf, refused, traceOf, entersOf, resumesOf, parseTrace, parseOf, resumeTrace, resumeOf}
-use Rattle.raw.proofs.Readings.{every}
+use Rattle.raw_scan.specs.Raw.{readOf, refused}
+use Rattle.raw_scan.proofs.Limits.{read-sevens}
+use Rattle.raw.specs.Raw.{traceOf, entersOf, resumesOf, parseTrace, parseOf, resumeTrace, resumeOf}
 use Rattle.raw.proofs.Refusals.{enters-small, resumes-small}
 
 module _ (lines : Bool) (t : List ℕ) where
-  pub read-sevens : (start : Cursor) (k : ℕ) → Sevens (readOf lines t start k)
-  unfolding readOf
-  read-sevens start k =
-      every lines (start .place) t (λ at r. Sevens r) (λ at e q. tt) (λ at f l. (λ q. omega arith, λ q. omega arith)) (λ at bs f r q h. (q, h)) (λ at c w r e h. h)
-      (start .at) (entered k (start .place))
-
   trace-sevens : (n : ℕ) (start : Cursor) (k : ℕ) → n ≤ 3 → Sevens (traceOf lines n t start k)
   unfolding traceOf
   trace-sevens n start k h =
-      pick-cases Sevens (eqb n 0) (readOf lines t start k) (fails (refused n start)) (λ q. read-sevens start k) (λ q. (λ p. omega arith, λ p. omega arith))
+      pick-cases Sevens (eqb n 0) (readOf lines t start k) (fails (refused n start)) (λ q. read-sevens lines t start k) (λ q. (λ p. omega arith, λ p. omega arith))
 
   module _ (at : ℕ) (p : Position) where
     -- entered after the first hash

@@ -1,4 +1,4 @@
--- The table of returns in front of the definition of a turn, row by row; then limits and rooms, and the arguments that are refused. Assumes nothing.
+-- The table of returns in specs/Raw.antt, row by row; then limits and rooms, and the arguments that are refused. Assumes nothing.
 use Prim.Native.Nat.{ℕ, zero, suc}
 use mathlib.Core.List.{List, [], _∷_}
 use mathlib.Core.Path.{_≡_, refl}
@@ -17,7 +17,7 @@ use Rattle.literal.specs.Cut.{cut}
 use Rattle.literal.specs.declared.Terminator.{Terminator}
 use Rattle.literal.specs.declared.Scanned.{Scanned}
 use Rattle.literal.specs.declared.Scanned.the-variants.{Accepted, Refused}
-use Rattle.raw.specs.Raw.{
+use Rattle.raw_scan.specs.Raw.{
   quote,
   hash,
   lf,
@@ -33,13 +33,8 @@ use Rattle.raw.specs.Raw.{
   atEnd,
   turn,
   readOf,
-  traceOf,
-  entersOf,
-  resumesOf,
-  parseTrace,
-  resumeTrace,
-  resumeOf,
 }
+use Rattle.raw.specs.Raw.{traceOf, entersOf, resumesOf, parseTrace, resumeTrace, resumeOf}
 
 -- a scan from the start of a text, with the Rust's hash count, at a place; and at 1:1
 abbrev from : Position → ℕ → List ℕ → Trace

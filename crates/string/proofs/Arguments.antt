@@ -7,7 +7,7 @@ use borrow.Author.Tests.{eq-eqb, ne-eqb}
 use Rattle.position.specs.declared.Position.{Position}
 use Rattle.position.specs.Place.{onLine, beginsLine}
 use Rattle.chars.specs.Door.{doorOf}
-use Rattle.string_turn.specs.Kinds.{quote, apostrophe, backtick}
+use Rattle.string_take.specs.Kinds.{quote, apostrophe, backtick}
 use Rattle.string.specs.Scans.{startOf, argumentOf}
 
 module _ (p : Position) (q : ℕ) {a : Bool} (e : a ≡ onLine p) where

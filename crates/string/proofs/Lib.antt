@@ -1,9 +1,4 @@
 pub mod Returns
-pub mod Readings
 pub mod Limited
-pub mod Sizes
 pub mod Arguments
-pub mod Turning
-pub mod Measuring
-pub mod Writing
 pub mod Entering

@@ -1,8 +1,8 @@
 -- Demand 3 for a string literal: its limits are 7 and its own refusals are not, so what holds of any such reading holds of it. Assumes nothing.
-use Prim.Native.Nat.{ℕ, zero, suc, _+_, _-_, _≤_}
+use Prim.Native.Nat.{ℕ, _≤_}
 use native.Mathlib.Omega.{arith}
-use mathlib.Core.Bool.{Bool, false}
-use mathlib.Core.List.{List, [], _∷_}
+use mathlib.Core.Bool.{false}
+use mathlib.Core.List.{List}
 use mathlib.Core.Logic.{_⊎_}
 use mathlib.Core.Path.{_≡_, refl}
 use lib.Dec.{eqb, ltb}
@@ -10,14 +10,11 @@ use lib.ListN.{length}
 use Rattle.basis.proofs.Cases.{pick-cases}
 use Rattle.position.specs.declared.Position.{Position}
 use Rattle.position.specs.Place.{onLine, beginsLine}
-use Rattle.utf8.specs.Table.{Ch, chars, charsAt, well, edge}
-use Rattle.utf8.specs.Encode.{encoded}
+use Rattle.utf8.specs.Table.{chars, well, edge}
 use Rattle.chars.specs.Cursors.{cursor}
 use Rattle.chars.specs.Door.{doorOf}
 use Rattle.classes.specs.White.{isWhite}
-use Rattle.chars.specs.Scan.{go, stop, run, runAt, onTurn}
-use Rattle.chars.specs.declared.cursor.Cursor.{Cursor}
-use Rattle.literal.specs.Trace.{Trace, checks, added, tested, yields, bytes, final, good, passes}
+use Rattle.literal.specs.Trace.{bytes, final, good, passes}
 use Rattle.literal.specs.Cut.{answer}
 use Rattle.literal.specs.Told.{number}
 use Rattle.literal.specs.Limits.{Sevens, Looser, Cuts}
@@ -25,53 +22,10 @@ use Rattle.literal.specs.declared.End.{End}
 use Rattle.literal.specs.declared.Refusal.{Refusal}
 use Rattle.literal.specs.declared.Scanned.the-variants.{Accepted, Refused}
 use Rattle.literal.proofs.Limits.{accepted-whole, uncut-within, recurs-whole, cut-at-the-first}
-use Rattle.string_turn.specs.Kinds.{quote, apostrophe, backtick}
-use Rattle.string_turn.specs.Endings.{once}
-use Rattle.string_turn.specs.Turns.{endOf, takeOf, actOf}
-use Rattle.string_turn.specs.declared.State.{State}
-use Rattle.string_turn.specs.declared.Last.{Last}
-use Rattle.string_turn.specs.declared.Last.the-variants.{Good, Bad}
-use Rattle.string_turn.specs.declared.Got.{Got}
-use Rattle.string_turn.specs.declared.Got.the-variants as got
-use Rattle.string_turn.specs.declared.Step.{Step}
-use Rattle.string_turn.specs.declared.Step.the-variants as step
-use Rattle.string_turn.proofs.Reaching.{Fair, Gets, Steps, take-gets, act-steps, end-fair}
-use Rattle.string.specs.Ends.{tooLongAt, fullAt, argumentAt, lastOf}
-use Rattle.string.specs.Scans.{onGot, onStep, turnOf, rule, begun, readingOf, startOf, argumentOf, traceOf, scanOf}
-
-last-sevens : (start : Position) (last : Last) → Fair last → Sevens (lastOf start last)
-unfolding lastOf tooLongAt
-last-sevens start (Good e) p = (refl, tt)
-last-sevens start (Bad f) p = p
-
-module _ (white : ℕ → Bool) (t : List ℕ) (q : ℕ) (start : Position) where
-  run-sevens : (k : ℕ) (cs : List Ch) (at : ℕ) (s : State) → Sevens (run (rule white t q start) k cs at s)
-  unfolding run rule turnOf yields tooLongAt
-  run-sevens k [] at s = last-sevens start (endOf q start at s) (end-fair q start at s)
-  run-sevens (suc k) (c ∷ cs) at s = run-sevens k cs (at + c .width) s
-  run-sevens zero (c ∷ cs) at s = taken (takeOf t q start at s) (take-gets t q start at s) (λ k r. run-sevens k cs (at + c .width) r)
-    where
-      on : ℕ → State → Trace
-      on k r = run (rule white t q start) k cs (at + c .width) r
-
-      acted : (here : Cursor) (x : Step) → Steps t (here .at) x → ((k : ℕ) (r : State) → Sevens (on k r))
-          → Sevens (onTurn (onStep x (λ d next r. go (tested (tooLongAt start here (once q)) ∷ added (encoded d) ∷ []) (length (c ∷ cs) - suc (length (charsAt t next))) r)
-          (λ last. stop (checks (tooLongAt start here (once q)) (lastOf start last)))) (λ n k r. yields n (on k r)) (λ r. r))
-      acted here (step.Go d next r) p ih = (refl, ih (suc (length cs) - suc (length (charsAt t next))) r)
-      acted here (step.Over last) p ih = (refl, last-sevens start last p)
-
-      taken : (x : Got) → Gets t at x → ((k : ℕ) (r : State) → Sevens (on k r))
-          → Sevens (onTurn (onGot x
-          (λ d here. onStep (actOf white t q start d here s)
-          (λ d next r. go (tested (tooLongAt start here (once q)) ∷ added (encoded d) ∷ []) (length (c ∷ cs) - suc (length (charsAt t next))) r)
-          (λ last. stop (checks (tooLongAt start here (once q)) (lastOf start last))))
-          (λ last. stop (lastOf start last))) (λ n k r. yields n (on k r)) (λ r. r))
-      taken (got.Char d here) p ih = acted here (actOf white t q start d here s) (act-steps t white q start d here s) ih
-      taken (got.Over last) p ih = last-sevens start last p
-
-pub reading-sevens : (white : ℕ → Bool) (t : List ℕ) (q : ℕ) (from : Cursor) → Sevens (readingOf white t q from)
-unfolding readingOf runAt
-reading-sevens white t q from = run-sevens white t q (from .place) 0 (charsAt t (from .at)) (from .at) (begun (from .place))
+use Rattle.string_take.specs.Kinds.{quote, apostrophe, backtick}
+use Rattle.string_scan.specs.Ends.{fullAt, argumentAt}
+use Rattle.string_scan.proofs.Limited.{reading-sevens}
+use Rattle.string.specs.Scans.{startOf, argumentOf, traceOf, scanOf}
 
 -- the refusals of the arguments are 1, 2 and 3
 small : ℕ → Type 0

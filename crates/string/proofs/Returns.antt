@@ -22,11 +22,13 @@ use Rattle.literal.specs.declared.Terminator.{Terminator}
 use Rattle.literal.specs.declared.Scanned.{Scanned}
 use Rattle.literal.specs.declared.Scanned.the-variants.{Accepted, Refused}
 use Rattle.escape.specs.Escapes.{letterOf, digitsAfter, digitsFrom, numberOf, escapedOf}
-use Rattle.string_turn.specs.Kinds.{lf, cr, quote, apostrophe, backtick, dollar, isVerbatim, isContinued, isInterpolated}
-use Rattle.string_turn.specs.Endings.{once, clear, ending, refusal, unterminatedAt, malformedAt}
-use Rattle.string_turn.specs.Turns.{isEmpty, columnOf, nextIs, endOf, dollarOf, takeOf, closeOf, lineFeedOf, escapeOf, addOf, plainOf, otherOf, matchOf, actOf}
-use Rattle.string.specs.Ends.{argumentAt, tooLongAt, fullAt, lastOf}
-use Rattle.string.specs.Scans.{turnOf, rule, begun, readingOf, startOf, argumentOf, traceOf, scanOf}
+use Rattle.string_take.specs.Kinds.{lf, cr, quote, apostrophe, backtick, dollar, isVerbatim, isContinued, isInterpolated}
+use Rattle.string_take.specs.Endings.{once, clear, ending, refusal, unterminatedAt, malformedAt}
+use Rattle.string_take.specs.Turns.{isEmpty, nextIs, endOf, dollarOf, takeOf}
+use Rattle.string_act.specs.Turns.{columnOf, closeOf, lineFeedOf, escapeOf, addOf, plainOf, otherOf, matchOf, actOf}
+use Rattle.string_scan.specs.Ends.{argumentAt, tooLongAt, fullAt, lastOf}
+use Rattle.string_scan.specs.Scans.{turnOf, rule, begun, readingOf}
+use Rattle.string.specs.Scans.{startOf, argumentOf, traceOf, scanOf}
 
 -- the answer to a text from offset 0, with room for a hundred bytes
 abbrev scan : ℕ → Position → ℕ → List ℕ → Scanned

@@ -18,66 +18,21 @@
 -- | backtick   | `ab${`, limit 1              | 7                                  | nothing   |
 --
 -- Each row is proved in proofs/Returns.antt.
-use Prim.Native.Nat.{ℕ, suc, _-_}
-use mathlib.Core.Bool.{Bool}
-use mathlib.Core.List.{List, [], _∷_}
+use Prim.Native.Nat.{ℕ}
+use mathlib.Core.List.{List}
 use lib.Dec.{eqb}
-use lib.ListN.{length}
 use Rattle.basis.specs.Pick.{pick}
 use Rattle.position.specs.declared.Position.{Position}
-use Rattle.position.specs.Place.{none, onLine, beginsLine}
-use Rattle.utf8.specs.Table.{Ch, charsAt}
-use Rattle.utf8.specs.Encode.{encoded}
+use Rattle.position.specs.Place.{onLine, beginsLine}
 use Rattle.chars.specs.Cursors.{cursor}
 use Rattle.chars.specs.Door.{doorOf}
-use Rattle.chars.specs.Scan.{Turn, go, stop, Rule, runAt}
 use Rattle.classes.specs.White.{isWhite}
-use Rattle.chars.specs.declared.cursor.Cursor.{Cursor}
-use Rattle.literal.specs.Trace.{Trace, fails, checks, Yield, added, tested, yields}
+use Rattle.literal.specs.Trace.{Trace, fails}
 use Rattle.literal.specs.Cut.{cut}
 use Rattle.literal.specs.declared.Scanned.{Scanned}
-use Rattle.string_turn.specs.Kinds.{quote, apostrophe, backtick}
-use Rattle.string_turn.specs.Endings.{once}
-use Rattle.string_turn.specs.Turns.{state, endOf, takeOf, actOf}
-use Rattle.string_turn.specs.declared.Pending.the-variants.{Empty}
-use Rattle.string_turn.specs.declared.State.{State}
-use Rattle.string_turn.specs.declared.Last.{Last}
-use Rattle.string_turn.specs.declared.Got.{Got}
-use Rattle.string_turn.specs.declared.Got.the-variants as got
-use Rattle.string_turn.specs.declared.Step.{Step}
-use Rattle.string_turn.specs.declared.Step.the-variants as step
-use Rattle.string.specs.Ends.{argumentAt, tooLongAt, fullAt, lastOf}
-
--- a character that was taken, or the scan over
-abbrev pub onGot : {A : Type 0} → Got → (ℕ → Cursor → A) → (Last → A) → A
-onGot (got.Char c here) f g = f c here
-onGot (got.Over last) f g = g last
-
--- a step that goes on, or the scan over
-abbrev pub onStep : {A : Type 0} → Step → (ℕ → ℕ → State → A) → (Last → A) → A
-onStep (step.Go c at s) f g = f c at s
-onStep (step.Over last) f g = g last
-
--- a turn: a character is taken, the limit is tested, and the character is acted on; of the characters cs from here on it takes those that are not left then
-unfoldable pub turnOf : (ℕ → Bool) → List ℕ → ℕ → Position → ℕ → List Ch → State → Turn State (List Yield) Trace
-turnOf white t q start at cs s =
-    onGot (takeOf t q start at s)
-    (λ c here. onStep (actOf white t q start c here s)
-    (λ d next s′. go (tested (tooLongAt start here (once q)) ∷ added (encoded d) ∷ []) (length cs - suc (length (charsAt t next))) s′)
-    (λ last. stop (checks (tooLongAt start here (once q)) (lastOf start last))))
-    (λ last. stop (lastOf start last))
-
--- the rule for a terminator, of the text t, for a literal that starts at a place; `white` is the white-space test of the continuation
-unfoldable pub rule : (ℕ → Bool) → List ℕ → ℕ → Position → Rule State (List Yield) Trace
-rule white t q start = record { turn = turnOf white t q start; end = λ at s. lastOf start (endOf q start at s); note = yields }
-
--- before the first turn
-unfoldable pub begun : Position → State
-begun p = state p none Empty 0
-
--- the literal's reading by the unlimited rules, from a cursor whose place is the literal's start
-unfoldable pub readingOf : (ℕ → Bool) → List ℕ → ℕ → Cursor → Trace
-readingOf white t q from = runAt (rule white t q (from .place)) t (from .at) (begun (from .place))
+use Rattle.string_take.specs.Kinds.{quote, apostrophe, backtick}
+use Rattle.string_scan.specs.Ends.{argumentAt, fullAt}
+use Rattle.string_scan.specs.Scans.{readingOf}
 
 -- 3: the place is on no line, an ordinary literal starts at column 0, or the terminator is none of the three
 unfoldable pub startOf : Position → ℕ → ℕ

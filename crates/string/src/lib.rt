@@ -1,15 +1,10 @@
-// String literals: the Rust's `parse_string_literal` for its three terminators, `"`, `'` and backtick.
+// String literals: the entry of the Rust's `parse_string_literal` for its three terminators, `"`, `'` and backtick, which asks its
+// arguments first.
 ghost use mathlib.Core.Path.{_≡_};
-ghost use Prim.Native.Nat.{_≤_};
 ghost use lib.ListN.{length};
-ghost use Rattle.basis.specs.Store.{over};
-ghost use Rattle.classes.specs.White.{isWhite};
-ghost use Rattle.utf8.specs.Encode.{encoded};
-ghost use Rattle.literal.specs.Trace.{bytes};
-ghost use Rattle.literal.specs.Cut.{cut, wrote};
-ghost use Rattle.string.specs.Ends.{argumentAt, tooLongAt, fullAt, lastOf};
-ghost use Rattle.string.specs.Scans.{begun, readingOf, startOf, argumentOf, traceOf, scanOf};
-ghost use Rattle.string.specs.Limited.{Answers, Tells};
+ghost use Rattle.literal.specs.Cut.{wrote};
+ghost use Rattle.string_scan.specs.Ends.{argumentAt};
+ghost use Rattle.string.specs.Scans.{startOf, argumentOf, traceOf, scanOf};
 use chars::cursor::Cursor;
 use fault::Fault;
 use fault::Part;
@@ -17,11 +12,6 @@ use literal::Refusal;
 use literal::Scanned;
 use literal::Terminator;
 use position::Position;
-use string_turn::Got;
-use string_turn::Last;
-use string_turn::Pending;
-use string_turn::State;
-use string_turn::Step;
 
 const QUOTE: u32 = 0x22;
 
@@ -29,47 +19,7 @@ const APOSTROPHE: u32 = 0x27;
 
 const BACKTICK: u32 = 0x60;
 
-// A turn under a limit: as Step, or the answer.
-enum Turned {
-    On(u32, usize, State),
-    Over(Scanned),
-}
-
-// How many bytes a character adds to the body.
-fn size(c: u32) -> usize
-    ensures { λ r. ⌜ r ≡ length (encoded c) ⌝ }
-{
-    if utf8::is_scalar(c) {
-        if c < 0x80 {
-            return 1;
-        }
-        if c < 0x800 {
-            return 2;
-        }
-        if c < 0x10000 {
-            return 3;
-        }
-        return 4;
-    }
-    0
-}
-
-// 7: what is on record there stays.
-fn too_long(start: Position, here: Cursor, on_record: Terminator) -> Refusal
-    ensures { λ r. ⌜ r ≡ tooLongAt start here on_record ⌝ }
-{
-    Refusal {
-        fault: Fault {
-            number: Fault::STRING_TOO_LONG,
-            place: start,
-            part: Part::NONE,
-        },
-        cursor: here,
-        on_record,
-    }
-}
-
-// 1, 2, 3 and 9, which stand where the scan began.
+// 1, 2 and 3, which stand where the scan began.
 fn refused(number: u8, from: Cursor) -> Refusal
     ensures { λ r. ⌜ r ≡ argumentAt number from ⌝ }
 {
@@ -82,102 +32,6 @@ fn refused(number: u8, from: Cursor) -> Refusal
         },
         cursor: from,
         on_record: Terminator::NONE,
-    }
-}
-
-// How a scan is over under a limit, with a body of n bytes.
-fn answered(start: Position, limit: usize, n: usize, last: Last) -> Scanned
-    ensures { λ r. ⌜ Answers limit n (lastOf start last) r ⌝ }
-{
-    match last {
-        Last::Good(end) => {
-            if literal::is_over(limit, n) {
-                let here = end.cursor;
-                return Scanned::Refused(too_long(start, here, end.on_record));
-            }
-            Scanned::Accepted(end, n)
-        }
-        Last::Bad(refusal) => Scanned::Refused(refusal),
-    }
-}
-
-// A turn with n bytes in the body: the limit is tested between taking a character and acting on it.
-fn turn(text: &[u8], q: u32, start: Position, limit: usize, n: usize, at: usize, s: State) -> Turned
-    ensures { λ r. ⌜ Tells limit n (now (text .entry)) q start at s r ⌝ }
-{
-    match string_turn::take(text, q, start, at, s) {
-        Got::Over(last) => Turned::Over(answered(start, limit, n, last)),
-        Got::Char(c, here) => {
-            if literal::is_over(limit, n) {
-                let on_record = Terminator { c: q, times: 1 };
-                return Turned::Over(Scanned::Refused(too_long(start, here, on_record)));
-            }
-            match string_turn::act(text, q, start, c, here, s) {
-                Step::Over(last) => Turned::Over(answered(start, limit, n, last)),
-                Step::Go(d, next, r) => Turned::On(d, next, r),
-            }
-        }
-    }
-}
-
-// Before the first turn.
-fn begun(place: Position) -> State
-    ensures { λ r. ⌜ r ≡ begun place ⌝ }
-{
-    State {
-        place,
-        first: Position::NONE,
-        escape: Pending::Empty,
-        skip: 0,
-    }
-}
-
-// The scan of a literal whose start is the cursor's place, with nothing written: how it ends and the
-// length of the body, within a limit and a room. An inner function: it does not ask the arguments.
-pub fn measure(text: &[u8], from: Cursor, q: u32, limit: usize, room: usize) -> Scanned
-    ensures { λ r. ⌜ r ≡ cut (fullAt from) limit room 0 (readingOf isWhite (now (text .entry)) q from) ⌝ }
-{
-    let start = from.place;
-    let mut at = from.at;
-    let mut s = begun(start);
-    let mut n = 0;
-    loop {
-        match turn(text, q, start, limit, n, at, s) {
-            Turned::Over(r) => {
-                return r;
-            }
-            Turned::On(d, next, r) => {
-                let m = size(d);
-                if room - n < m {
-                    return Scanned::Refused(refused(Fault::NO_LITERAL_ROOM, from));
-                }
-                n += m;
-                at = next;
-                s = r;
-            }
-        }
-    }
-}
-
-// Writes the body of a literal that was measured and accepted. An inner function too.
-pub fn write(text: &[u8], from: Cursor, q: u32, out: &mut [u8])
-    requires { ⌜ length (bytes (readingOf isWhite (now text) q from)) ≤ length (now out) ⌝ }
-    ensures { λ r. ⌜ now (out .exit) ≡ over (bytes (readingOf isWhite (now (text .entry)) q from)) (now (out .entry)) ⌝ }
-{
-    let start = from.place;
-    let mut at = from.at;
-    let mut s = begun(start);
-    let mut n = 0;
-    loop {
-        let Got::Char(c, here) = string_turn::take(text, q, start, at, s) else {
-            return;
-        };
-        let Step::Go(d, next, r) = string_turn::act(text, q, start, c, here, s) else {
-            return;
-        };
-        n = encoder::put(d, &mut *out, n);
-        at = next;
-        s = r;
     }
 }
 
@@ -231,11 +85,11 @@ pub fn parse_string_literal(
     let from = Cursor { at, place };
     let number = argument_number(text, at, place, terminator);
     if number == 0 {
-        let scanned = measure(text, from, terminator, limit, out.len());
+        let scanned = string_scan::measure(text, from, terminator, limit, out.len());
         let Scanned::Accepted(_, _) = scanned else {
             return scanned;
         };
-        write(text, from, terminator, out);
+        string_write::write(text, from, terminator, out);
         return scanned;
     }
     Scanned::Refused(refused(number, from))

@@ -6,17 +6,20 @@ use mathlib.Core.Path.{_≡_, refl, sym, ap, _∙_}
 use mathlib.Core.List.{List, [], _∷_, _++_, append-assoc}
 use lib.ListN.{length, getD, take, drop, length-append, List·getD-append}
 use lib.Seq.{getD-append-add, drop-append-add, drop-append-seam, take-append-seam}
+use mir.Syntax.{w8, w64}
+use mir.Val.{Fits}
 use Rattle.basis.specs.Words.{word}
 use Rattle.token.specs.Keywords.{Entry, keywords, blank, entryAt}
-use Rattle.token.specs.Table.{firstPlace, nextPlace, textsOf, textStart, tabulated, table}
+use Rattle.token.specs.Table.{firstPlace, nextPlace, textsOf, textStart, tabulated, table, placeOf}
+use Rattle.token.specs.declared.Place.{Place}
 
 -- a list of what f gives, by its length and its elements
-pub tabulated-length : (f : ℕ → ℕ) (a n : ℕ) → length (tabulated f a n) ≡ n
+tabulated-length : (f : ℕ → ℕ) (a n : ℕ) → length (tabulated f a n) ≡ n
 unfolding tabulated
 tabulated-length f a zero = refl
 tabulated-length f a (suc n) = ap suc (tabulated-length f (suc a) n)
 
-pub tabulated-at : (f : ℕ → ℕ) (a n k : ℕ) → k < n → getD (tabulated f a n) k 0 ≡ f (a + k)
+tabulated-at : (f : ℕ → ℕ) (a n k : ℕ) → k < n → getD (tabulated f a n) k 0 ≡ f (a + k)
 unfolding tabulated
 tabulated-at f a zero k h = absurd (omega arith)
 tabulated-at f a (suc n) zero h = rw add-zero
@@ -72,11 +75,11 @@ starts-on = tabulated textStart 0 154 ++ tokens-on
 nexts-on : List ℕ
 nexts-on = tabulated nextPlace 0 153 ++ starts-on
 
-pub sized : length table ≡ 909
+sized : length table ≡ 909
 unfolding table
 sized = simp (length-append, tabulated-length, all-long)
 
-pub first-at : (b : ℕ) → b < 256 → getD table b 0 ≡ firstPlace b
+first-at : (b : ℕ) → b < 256 → getD table b 0 ≡ firstPlace b
 unfolding table
 first-at b h = in-part firstPlace 256 _ b h
 
@@ -88,15 +91,15 @@ from-starts : (k : ℕ) → getD table (409 + k) 0 ≡ getD starts-on k 0
 unfolding nexts-on
 from-starts k = ap (λ (m : ℕ). getD table m 0) (omega arith) ∙ from-nexts (153 + k) ∙ behind-part nextPlace 153 _ k
 
-pub next-at : (k : ℕ) → k < 153 → getD table (256 + k) 0 ≡ nextPlace k
+next-at : (k : ℕ) → k < 153 → getD table (256 + k) 0 ≡ nextPlace k
 unfolding nexts-on
 next-at k h = from-nexts k ∙ in-part nextPlace 153 _ k h
 
-pub start-at : (k : ℕ) → k < 154 → getD table (409 + k) 0 ≡ textStart k
+start-at : (k : ℕ) → k < 154 → getD table (409 + k) 0 ≡ textStart k
 unfolding starts-on
 start-at k h = from-starts k ∙ in-part textStart 154 _ k h
 
-pub token-at : (k : ℕ) → k < 153 → getD table (563 + k) 0 ≡ entryAt k .token
+token-at : (k : ℕ) → k < 153 → getD table (563 + k) 0 ≡ entryAt k .token
 unfolding starts-on tokens-on
 token-at k h =
     ap (λ (m : ℕ). getD table m 0) (omega arith) ∙ from-starts (154 + k) ∙ behind-part textStart 154 _ k ∙ in-part (λ k. entryAt k .token) 153 _ k h
@@ -113,33 +116,40 @@ from-texts k =
 
 module _ (k : ℕ) (h : k < 153) where
   -- a text ends where the next one starts, and within the table
-  pub start-next : textStart (suc k) ≡ textStart k + length (entryAt k .text)
+  start-next : textStart (suc k) ≡ textStart k + length (entryAt k .text)
   unfolding textStart entryAt
   start-next = starts-split blank keywords k (rw many h)
 
-  pub start-within : textStart (suc k) ≤ 193
+  start-within : textStart (suc k) ≤ 193
   unfolding textStart
   start-within = omega (arith, start-next, simp length-append at (ap length (texts-at k h) ∙ refl), all-long)
 
-  pub text-part : take (textStart (suc k) - textStart k) (drop (716 + textStart k) table) ≡ entryAt k .text
+  text-part : take (textStart (suc k) - textStart k) (drop (716 + textStart k) table) ≡ entryAt k .text
   unfolding textStart
   text-part =
       let e : textStart (suc k) - textStart k ≡ length (entryAt k .text) = omega (arith, start-next) in
       rw (e, from-texts (textStart k), texts-at k h, drop-append-seam, take-append-seam)
+
+-- a byte that was read is a number, and so is where its part starts and it together
+pub wide : (x : ℕ) → Fits w8 x → Fits w64 x
+wide x h = omega arith
+
+pub wide-on : (x : ℕ) → Fits w8 x → Fits w64 (716 + x)
+wide-on x h = omega arith
 
 -- what the code reads in a copy of the table
 module _ (l : List ℕ) (e : l ≡ table) where
   pub inside : (i : ℕ) → i < 909 → i < length l
   inside i h = rw (e, sized) h
 
-  pub first-read : (b : ℕ) → b < 256 → getD l b 0 ≡ firstPlace b
-  first-read b h = rw e (first-at b h)
+  pub first-read : (b : ℕ) → b < 256 → getD l (0 + b) 0 ≡ firstPlace b
+  first-read b h = rw (zero-add, e) (first-at b h)
 
   module _ (k : ℕ) (h : k < 153) where
-    pub next-read : getD l (256 + k) 0 ≡ nextPlace k
+    next-read : getD l (256 + k) 0 ≡ nextPlace k
     next-read = rw e (next-at k h)
 
-    pub token-read : getD l (563 + k) 0 ≡ entryAt k .token
+    token-read : getD l (563 + k) 0 ≡ entryAt k .token
     token-read = rw e (token-at k h)
 
     start-read : getD l (409 + k) 0 ≡ textStart k
@@ -150,13 +160,30 @@ module _ (l : List ℕ) (e : l ≡ table) where
         let m : 410 + k ≡ 409 + suc k = omega arith in
         rw (e, m) (start-at (suc k) (omega arith))
 
-    pub text-order : 716 + getD l (409 + k) 0 ≤ 716 + getD l (410 + k) 0
-    text-order = rw (start-read, end-read) (omega (arith, start-next k h))
+    pub place-read : (r : Place) → r .token ≡ getD l (563 + k) 0 → r .from ≡ 716 + getD l (409 + k) 0 → r .to ≡ 716 + getD l (410 + k) 0 → r .next ≡ getD l (256 + k) 0 → r ≡ placeOf k
+    unfolding placeOf
+    place-read r t f u n = rw (← token-read, ← start-read, ← end-read, ← next-read, ← t, ← f, ← u, ← n)
 
-    pub text-end : 716 + getD l (410 + k) 0 ≤ length l
-    text-end = rw (end-read, e, sized) (omega (arith, start-within k h))
+    -- what a place that was read says
+    module _ (r : Place) (p : r ≡ placeOf k) where
+      pub place-token : r .token ≡ entryAt k .token
+      unfolding placeOf
+      place-token = rw p
 
-    pub text-read : take ((716 + getD l (410 + k) 0) - (716 + getD l (409 + k) 0)) (drop (716 + getD l (409 + k) 0) l) ≡ entryAt k .text
-    text-read =
-        let n : (716 + textStart (suc k)) - (716 + textStart k) ≡ textStart (suc k) - textStart k = omega arith in
-        rw (start-read, end-read, n, e) (text-part k h)
+      pub place-next : r .next ≡ nextPlace k
+      unfolding placeOf
+      place-next = rw p
+
+      pub place-order : r .from ≤ r .to
+      unfolding placeOf
+      place-order = rw p (omega (arith, start-next k h))
+
+      pub place-end : r .to ≤ length l
+      unfolding placeOf
+      place-end = rw (p, e, sized) (omega (arith, start-within k h))
+
+      pub place-text : take (r .to - r .from) (drop (r .from) l) ≡ entryAt k .text
+      unfolding placeOf
+      place-text =
+          let n : (716 + textStart (suc k)) - (716 + textStart k) ≡ textStart (suc k) - textStart k = omega arith in
+          rw (p, n, e) (text-part k h)

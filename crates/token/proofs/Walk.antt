@@ -4,7 +4,7 @@ use native.Mathlib.Omega.{arith}
 use mathlib.Core.Bool.{true, false}
 use mathlib.Core.Path.{_≡_, refl, sym, ap, _∙_}
 use mathlib.Core.List.{List, [], _∷_}
-use lib.ListN.{length, getD, drop, length-drop}
+use lib.ListN.{length, getD, drop, length-drop, drop-of-length-le}
 use lib.Seq.{drop-cons, drop-drop, getD-drop}
 use borrow.Author.Tests.{eqb-true}
 use Rattle.basis.proofs.Cases.{pick-cases, not-both}
@@ -48,6 +48,9 @@ at-first b = record { within = rw many at (gap-within b keywords); begun = λ h.
 pub here-on : (k : ℕ) → k < 153 → drop k keywords ≡ entryAt k ∷ drop (suc k) keywords
 unfolding entryAt
 here-on k h = drop-cons keywords k blank (rw many h)
+
+pub none-on : (k : ℕ) → 153 ≤ k → drop k keywords ≡ []
+none-on k h = let l : length keywords ≤ k = rw many h in drop-of-length-le keywords l
 
 pub next-later : (k n : ℕ) → k < 153 → n ≡ nextPlace k → 153 - n < 153 - k
 unfolding nextPlace

@@ -1,5 +1,3 @@
 pub mod Tokens
 pub mod Keywords
-pub mod Lookup
-pub mod Symbols
 pub mod Table

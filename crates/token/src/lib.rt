@@ -1,17 +1,9 @@
-// Words: the list of keywords and symbols, their lookup and their text, and the longest symbol at a place.
+// Words: the tokens as numbers, and the list of keywords and symbols as a table of bytes with its readers.
 ghost use mathlib.Core.Path.{_≡_};
-ghost use mathlib.Core.Bool.{true};
 ghost use Prim.Native.Nat.{_<_};
-ghost use lib.ListN.{getD};
-ghost use Rattle.lent.specs.Written.{writtenOf, leftOf};
-ghost use Rattle.token.specs.Keywords.{keywords, entryAt};
-ghost use Rattle.token.specs.Lookup.{begins, same, lookupOf, textIn, writtenAs, literalSyntaxOf};
-ghost use Rattle.token.specs.Symbols.{isIdFirstAlphabetic, isIdContinue, isSymbol, standing, longer, longestOf, longestSymbolOf};
-ghost use Rattle.token.specs.Table.{table, firstPlace, nextPlace};
+ghost use Rattle.token.specs.Table.{table, firstPlace, placeOf};
 
 pub mod tokens;
-
-use tokens::*;
 
 // A token, or none.
 pub enum Lookup {
@@ -19,10 +11,13 @@ pub enum Lookup {
     None,
 }
 
-// A symbol's token and its length in bytes, or nothing.
-pub enum Longest {
-    Symbol(u8, usize),
-    Nothing,
+// A place of the list: its token, where its text stands in the table, and the next place whose text
+// begins with the same byte, 153 for none.
+pub struct Place {
+    pub token: u8,
+    pub from: usize,
+    pub to: usize,
+    pub next: usize,
 }
 
 // The list as bytes, made as `specs/Table.antt` says: for each byte its first place; for each of the
@@ -79,7 +74,9 @@ const WORDS: [u8; 909] = *b"\
     breakreturnfnimport?.exportin(||^^=_::--=]()&&=%%=!!=!in[if,doas\
     ?[??&&#{";
 
-// Where the parts of the table start; the first places start at 0.
+// Where the parts of the table start.
+const FIRSTS: usize = 0;
+
 const NEXTS: usize = 256;
 
 const STARTS: usize = 409;
@@ -96,238 +93,28 @@ pub fn words() -> [u8; 909]
     WORDS
 }
 
-// The first place whose text begins with a byte, 153 for none.
-fn first_place(words: &[u8], b: u8) -> usize
+// Inner: the first place whose text begins with a byte, 153 for none, by a copy of `words()` that
+// the caller lends.
+pub fn first_place(words: &[u8], b: u8) -> usize
     requires { ⌜ now words ≡ table ⌝ }
     ensures { λ r. ⌜ r ≡ firstPlace b ⌝ }
 {
-    words[b as usize] as usize
+    words[FIRSTS + b as usize] as usize
 }
 
-// The next place whose text begins with the same byte, 153 for none.
-fn next_place(words: &[u8], k: usize) -> usize
+// Inner: a place of the list, by such a copy.
+pub fn place_at(words: &[u8], k: usize) -> Place
     requires { ⌜ (now words ≡ table) × (k < 153) ⌝ }
-    ensures { λ r. ⌜ r ≡ nextPlace k ⌝ }
+    ensures { λ r. ⌜ r ≡ placeOf k ⌝ }
 {
-    words[NEXTS + k] as usize
-}
-
-// The token of a place.
-fn token_at(words: &[u8], k: usize) -> u8
-    requires { ⌜ (now words ≡ table) × (k < 153) ⌝ }
-    ensures { λ r. ⌜ r ≡ entryAt k .token ⌝ }
-{
-    words[TOKENS + k]
-}
-
-// The text of a place.
-fn text_at<'a>(words: &'a [u8], k: usize) -> &'a [u8]
-    requires { ⌜ (now words ≡ table) × (k < 153) ⌝ }
-    ensures { λ r. ⌜ now r ≡ entryAt k .text ⌝ }
-{
+    let token = words[TOKENS + k];
     let from = TEXTS + words[STARTS + k] as usize;
     let to = TEXTS + words[STARTS + 1 + k] as usize;
-    &words[from..to]
-}
-
-// Whether a text begins with a word.
-fn starts_with(text: &[u8], word: &[u8]) -> bool
-    ensures { λ r. ⌜ r ≡ begins (now (word .entry)) (now (text .entry)) ⌝ }
-{
-    if text.len() < word.len() {
-        return false;
+    let next = words[NEXTS + k] as usize;
+    Place {
+        token,
+        from,
+        to,
+        next,
     }
-    let mut i = 0;
-    while i < word.len() {
-        if word[i] != text[i] {
-            return false;
-        }
-        i += 1;
-    }
-    true
-}
-
-// Whether a text is a word.
-fn is_word(text: &[u8], word: &[u8]) -> bool
-    ensures { λ r. ⌜ r ≡ same (now (word .entry)) (now (text .entry)) ⌝ }
-{
-    if word.len() != text.len() {
-        return false;
-    }
-    starts_with(text, word)
-}
-
-// Inner: the lookup in a copy of `words()` that the caller lends. It walks the places whose text
-// begins with the text's first byte, four at most, and compares lengths before bytes.
-pub fn lookup_in(words: &[u8], text: &[u8]) -> Lookup
-    requires { ⌜ now words ≡ table ⌝ }
-    ensures { λ r. ⌜ r ≡ lookupOf (now (text .entry)) ⌝ }
-{
-    if text.len() == 0 {
-        return Lookup::None;
-    }
-    let mut k = first_place(words, text[0]);
-    while k < 153 {
-        if is_word(text, text_at(words, k)) {
-            return Lookup::Some(token_at(words, k));
-        }
-        k = next_place(words, k);
-    }
-    Lookup::None
-}
-
-// The token of a keyword or symbol; none for any other text.
-pub fn lookup_symbol_from_syntax(text: &[u8]) -> Lookup
-    ensures { λ r. ⌜ r ≡ lookupOf (now (text .entry)) ⌝ }
-{
-    let words = words();
-    lookup_in(&words, text)
-}
-
-// The text of the first place that has a token; empty for none.
-fn text_of<'a>(words: &'a [u8], token: u8) -> &'a [u8]
-    requires { ⌜ now words ≡ table ⌝ }
-    ensures { λ r. ⌜ now r ≡ textIn keywords token ⌝ }
-{
-    let mut k = 0;
-    while k < 153 {
-        if token_at(words, k) == token {
-            return text_at(words, k);
-        }
-        k += 1;
-    }
-    &words[0..0]
-}
-
-// The token that a token is written as.
-fn written_as(token: u8) -> u8
-    ensures { λ r. ⌜ r ≡ writtenAs token ⌝ }
-{
-    if token == UNARY_PLUS {
-        return PLUS;
-    }
-    if token == UNARY_MINUS {
-        return MINUS;
-    }
-    token
-}
-
-// Writes a token's text at the front of what is lent; nothing for a token without one, and for a
-// number that names no token.
-pub fn literal_syntax(token: u8, out: &mut [u8]) -> lent::Written
-    ensures { λ r. ⌜ r ≡ writtenOf (literalSyntaxOf token) (now (out .entry)) ⌝ }
-    ensures { λ r. ⌜ now (out .exit) ≡ leftOf (literalSyntaxOf token) (now (out .entry)) ⌝ }
-{
-    let words = words();
-    lent::write(text_of(&words, written_as(token)), out)
-}
-
-// Whether a byte is an ASCII letter.
-fn is_id_first_alphabetic(b: u8) -> bool
-    ensures { λ r. ⌜ r ≡ isIdFirstAlphabetic b ⌝ }
-{
-    if b < b'A' {
-        return false;
-    }
-    if b <= b'Z' {
-        return true;
-    }
-    if b < b'a' {
-        return false;
-    }
-    b <= b'z'
-}
-
-// Whether a byte may stand in an identifier.
-fn is_id_continue(b: u8) -> bool
-    ensures { λ r. ⌜ r ≡ isIdContinue b ⌝ }
-{
-    if is_id_first_alphabetic(b) {
-        return true;
-    }
-    if b == b'_' {
-        return true;
-    }
-    if b < b'0' {
-        return false;
-    }
-    b <= b'9'
-}
-
-// Whether an identifier goes on at an offset; it does not at the end.
-fn goes_on(text: &[u8], at: usize) -> bool
-    ensures { λ r. ⌜ r ≡ isIdContinue (getD (now (text .entry)) at 0) ⌝ }
-{
-    if at < text.len() {
-        return is_id_continue(text[at]);
-    }
-    false
-}
-
-// A place's symbol, where it stands at the front of a text.
-fn standing_at(words: &[u8], k: usize, text: &[u8]) -> Longest
-    requires { ⌜ (now words ≡ table) × (k < 153) × (isSymbol (entryAt k .text) ≡ true) ⌝ }
-    ensures { λ r. ⌜ r ≡ standing (now (text .entry)) (entryAt k) ⌝ }
-{
-    let word = text_at(words, k);
-    if starts_with(text, word) {
-        let token = token_at(words, k);
-        let n = word.len();
-        if token == NOT_IN {
-            if goes_on(text, n) {
-                return Longest::Nothing;
-            }
-            return Longest::Symbol(token, n);
-        }
-        return Longest::Symbol(token, n);
-    }
-    Longest::Nothing
-}
-
-// The longer of two symbols.
-fn longer_of(a: Longest, b: Longest) -> Longest
-    ensures { λ r. ⌜ r ≡ longer a b ⌝ }
-{
-    let Longest::Symbol(_, n) = a else {
-        return b;
-    };
-    let Longest::Symbol(_, m) = b else {
-        return a;
-    };
-    if n < m {
-        return b;
-    }
-    a
-}
-
-// Inner: the longest symbol at the front of a text, by a copy of `words()` that the caller lends.
-pub fn longest_in(words: &[u8], text: &[u8]) -> Longest
-    requires { ⌜ now words ≡ table ⌝ }
-    ensures { λ r. ⌜ r ≡ longestOf (now (text .entry)) ⌝ }
-{
-    if text.len() == 0 {
-        return Longest::Nothing;
-    }
-    let first = text[0];
-    if is_id_first_alphabetic(first) {
-        return Longest::Nothing;
-    }
-    let mut best = Longest::Nothing;
-    let mut k = first_place(words, first);
-    while k < 153 {
-        best = longer_of(best, standing_at(words, k, text));
-        k = next_place(words, k);
-    }
-    best
-}
-
-// The longest listed symbol at an offset, `!in` only if no identifier goes on there.
-pub fn longest_symbol(text: &[u8], at: usize) -> Longest
-    ensures { λ r. ⌜ r ≡ longestSymbolOf (now (text .entry)) at ⌝ }
-{
-    if text.len() < at {
-        return Longest::Nothing;
-    }
-    let words = words();
-    longest_in(&words, &text[at..])
 }

@@ -1,7 +1,7 @@
 -- The loop passes the bytes that are ASCII. Assumes nothing.
 use Prim.Native.Nat.{_-_}
 use lib.ListN.{length}
-use Rattle.book.proofs.Texts.{Plain, plain-start, not-plain, plain-next, plain-end}
+use Rattle.book.proofs.Plain.{Plain, plain-start, not-plain, plain-next, plain-end}
 use borrow.Author.Needs.{needs}
 use Rattle.book.proofs.is_ascii.Statement.{statement}
 use Rattle.book.proofs.is_ascii.Tie as tie

@@ -1,7 +1,8 @@
 -- Too short a memory for the row leaves both; else the scan is answered by its row.
 use borrow.Author.Needs.{needs}
 use Rattle.c_literal.proofs.Rows.{too-short, in-full}
-use Rattle.raw.specs.Raw.{asSource, resumeTrace, resumeOf}
+use Rattle.raw_scan.specs.Raw.{asSource}
+use Rattle.raw.specs.Raw.{resumeTrace, resumeOf}
 use Rattle.c_raw.specs.Scans.{resuming, resumed}
 use Rattle.c_raw.proofs.stew_resume_raw_string_literal.Statement.{statement}
 use Rattle.c_raw.proofs.stew_resume_raw_string_literal.Tie as tie

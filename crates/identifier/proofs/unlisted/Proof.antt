@@ -2,7 +2,7 @@
 use mathlib.Core.Bool.{Bool}
 use mathlib.Core.Path.{sym, ap, _∙_}
 use borrow.Author.Needs.{needs}
-use Rattle.book.specs.declared.Reserved.{Reserved}
+use Rattle.reserved.specs.declared.Reserved.{Reserved}
 use Rattle.identifier.proofs.Answers.{is-reserved, is-name, is-malformed}
 use Rattle.identifier.proofs.unlisted.Statement.{statement}
 use Rattle.identifier.proofs.unlisted.Tie as tie

@@ -1,6 +1,6 @@
 -- Refused arguments are refused, and nothing is written; all others are scanned.
 use borrow.Author.Needs.{needs}
-use Rattle.raw.specs.Raw.{asSource}
+use Rattle.raw_scan.specs.Raw.{asSource}
 use Rattle.raw.proofs.Refusals.{enters-within, untouched, parse-refused, parse-answered, parse-left}
 use Rattle.raw.proofs.parse_raw_string_literal.Statement.{statement}
 use Rattle.raw.proofs.parse_raw_string_literal.Tie as tie

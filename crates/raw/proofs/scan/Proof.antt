@@ -6,7 +6,7 @@ use borrow.Author.Needs.{needs}
 use Rattle.literal.specs.Trace.{bytes}
 use Rattle.literal.proofs.Limits.{accepted-whole}
 use Rattle.literal.proofs.Turns.{wrote-accepted}
-use Rattle.raw.specs.Raw.{asSource, readOf}
+use Rattle.raw_scan.specs.Raw.{asSource, readOf}
 use Rattle.raw.proofs.Refusals.{untouched}
 use Rattle.raw.proofs.scan.Statement.{statement}
 use Rattle.raw.proofs.scan.Tie as tie

@@ -1,3 +1,0 @@
-pub mod Precedence
-pub mod Assignments
-pub mod Kinds

@@ -1,0 +1,6 @@
+pub mod Turns
+pub mod Openings
+pub mod Loops
+pub mod Parts
+pub mod Readings
+pub mod Limits

@@ -1,0 +1,5 @@
+pub mod Sought
+pub mod Sorted
+pub mod Holds
+pub mod Places
+pub mod Examples

@@ -1,0 +1,13 @@
+-- In a good book the lookup with no check is the lookup. Assumes nothing.
+use Rattle.reserved.proofs.Places.{good-says, bad-says-nothing}
+use borrow.Author.Needs.{needs}
+use Rattle.reserved.proofs.lookup.Statement.{statement}
+use Rattle.reserved.proofs.lookup.Tie as tie
+
+pub lookup-spec : {M : Type 1} → statement M
+lookup-spec = tie.close
+    (tie.spec
+    (λ c κs. search needs)
+    (λ c. search bad-says-nothing)
+    (λ c κs. search needs)
+    (λ c. search good-says))

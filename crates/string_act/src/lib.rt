@@ -1,0 +1,340 @@
+// One turn of a string literal, its second half: the character that was taken is acted on, behind the test of the limit that the
+// caller makes.
+ghost use mathlib.Core.Path.{_≡_};
+ghost use Prim.Native.Nat.{_-_, _≤_};
+ghost use Rattle.classes.specs.White.{isWhite};
+ghost use Rattle.fault.specs.Faults.{part};
+ghost use Rattle.string_take.specs.Kinds.{isVerbatim, isContinued};
+ghost use Rattle.string_take.specs.Endings.{unterminatedAt, malformedAt};
+ghost use Rattle.string_take.specs.Turns.{isEmpty, nextIs};
+ghost use Rattle.string_act.specs.Turns.{
+  columnOf,
+  closeOf,
+  lineFeedOf,
+  escapeOf,
+  addOf,
+  plainOf,
+  otherOf,
+  matchOf,
+  actOf,
+};
+use chars::cursor::Cursor;
+use chars::cursor::Taken;
+use escape::Escaped;
+use escape::NOTHING;
+use fault::Fault;
+use fault::Part;
+use literal::End;
+use literal::Refusal;
+use literal::Terminator;
+use position::Position;
+use string_take::Last;
+use string_take::Pending;
+use string_take::State;
+use utf8::Look;
+
+const LF: u32 = 0x0A;
+
+const CR: u32 = 0x0D;
+
+const QUOTE: u32 = 0x22;
+
+const BACKSLASH: u32 = 0x5C;
+
+const BACKTICK: u32 = 0x60;
+
+// What a character leads to: the character that is added, NOTHING for none, the offset and the state
+// from which the scan goes on; or how it is over.
+pub enum Step {
+    Go(u32, usize, State),
+    Over(Last),
+}
+
+// Whether a terminator closes the literal; else the cursor behind it, or behind both of a doubled one.
+enum Closing {
+    Closed,
+    Open(Cursor),
+}
+
+// Text keeps its line feeds, and has no escapes.
+fn is_verbatim(q: u32) -> bool
+    ensures { λ r. ⌜ r ≡ isVerbatim q ⌝ }
+{
+    q == BACKTICK
+}
+
+// An ordinary literal goes on behind a backslash at the end of a line.
+fn is_continued(q: u32) -> bool
+    ensures { λ r. ⌜ r ≡ isContinued q ⌝ }
+{
+    q == QUOTE
+}
+
+// Whether no escape is pending.
+fn is_empty(escape: Pending) -> bool
+    ensures { λ r. ⌜ r ≡ isEmpty escape ⌝ }
+{
+    match escape {
+        Pending::Empty => true,
+        Pending::Backslash(_) => false,
+    }
+}
+
+// The column of a place; 0 for none.
+fn column(p: Position) -> usize
+    ensures { λ r. ⌜ (r ≡ columnOf p) × (r ≤ 65535) ⌝ }
+{
+    p.position().unwrap_or(0)
+}
+
+// Where the last character before an offset stands, if it has one byte.
+fn down(n: usize) -> usize
+    ensures { λ r. ⌜ r ≡ n - 1 ⌝ }
+{
+    if 0 < n { n - 1 } else { 0 }
+}
+
+// Whether the character at an offset is c.
+fn next_is(text: &[u8], at: usize, c: u32) -> bool
+    ensures { λ r. ⌜ r ≡ nextIs (now (text .entry)) at c ⌝ }
+{
+    let Look::Char(d, _) = utf8::look_at(text, at) else {
+        return false;
+    };
+    d == c
+}
+
+// The part of the script between two offsets, empty where there is none.
+fn between(from: usize, to: usize) -> Part
+    ensures { λ r. ⌜ r ≡ part from (to - from) ⌝ }
+{
+    if from <= to {
+        return Part {
+            at: from,
+            len: to - from,
+        };
+    }
+    Part { at: from, len: 0 }
+}
+
+// 4: the record is cleared.
+fn unterminated(start: Position, here: Cursor) -> Refusal
+    ensures { λ r. ⌜ r ≡ unterminatedAt start here ⌝ }
+{
+    Refusal {
+        fault: Fault {
+            number: Fault::UNTERMINATED_STRING,
+            place: start,
+            part: Part::NONE,
+        },
+        cursor: here,
+        on_record: Terminator::NONE,
+    }
+}
+
+// 6: the terminator stays on record.
+fn malformed(q: u32, from: usize, here: Cursor) -> Refusal
+    ensures { λ r. ⌜ r ≡ malformedAt q from here ⌝ }
+{
+    let place = here.place;
+    Refusal {
+        fault: Fault {
+            number: Fault::MALFORMED_ESCAPE_SEQUENCE,
+            place,
+            part: between(from, here.at),
+        },
+        cursor: here,
+        on_record: Terminator { c: q, times: 1 },
+    }
+}
+
+// A terminator alone closes; of a doubled one the second is taken too.
+fn close(text: &[u8], q: u32, c: u32, here: Cursor, escape: Pending) -> Closing
+    ensures { λ r. ⌜ r ≡ closeOf (now (text .entry)) q c here escape ⌝ }
+{
+    if c == q {
+        if is_empty(escape) {
+            let Taken::Char(d, next) = here.eat_next_and_advance(text) else {
+                return Closing::Closed;
+            };
+            if d == q {
+                return Closing::Open(next);
+            }
+            return Closing::Closed;
+        }
+        return Closing::Open(here);
+    }
+    Closing::Open(here)
+}
+
+// A line feed, which starts a line unless the literal ends there.
+fn line_feed(q: u32, start: Position, at: usize, s: State) -> Step
+    ensures { λ r. ⌜ r ≡ lineFeedOf q start at s ⌝ }
+{
+    let place = s.place;
+    let first = s.first;
+    let escape = s.escape;
+    let skip = s.skip;
+    if is_verbatim(q) {
+        let next = State {
+            place: place.lined(),
+            first,
+            escape,
+            skip,
+        };
+        return Step::Go(LF, at, next);
+    }
+    let rewound = Cursor {
+        at,
+        place: place.rewound(),
+    };
+    if is_continued(q) {
+        if is_empty(escape) {
+            return Step::Over(Last::Bad(unterminated(start, rewound)));
+        }
+        let next = State {
+            place: place.lined(),
+            first,
+            escape: Pending::Empty,
+            skip: column(start) + 1,
+        };
+        return Step::Go(NOTHING, at, next);
+    }
+    Step::Over(Last::Bad(unterminated(start, rewound)))
+}
+
+// The character behind a backslash. The skipping of white space goes on.
+fn escaped(text: &[u8], q: u32, c: u32, from: usize, at: usize, s: State) -> Step
+    ensures { λ r. ⌜ r ≡ escapeOf (now (text .entry)) q c from at s ⌝ }
+{
+    let place = s.place;
+    let first = s.first;
+    let until = s.skip;
+    let here = Cursor { at, place };
+    let escape = Pending::Empty;
+    match escape::unescape(text, c, here) {
+        Escaped::Char(d, next) => {
+            let place = next.place;
+            let to = State {
+                place,
+                first,
+                escape,
+                skip: until,
+            };
+            return Step::Go(d, next.at, to);
+        }
+        Escaped::Malformed(next) => {
+            return Step::Over(Last::Bad(malformed(q, from, next)));
+        }
+        Escaped::Other => {
+            if c == q {
+                let to = State {
+                    place,
+                    first,
+                    escape,
+                    skip: until,
+                };
+                return Step::Go(q, at, to);
+            }
+            return Step::Over(Last::Bad(malformed(q, from, here)));
+        }
+    }
+}
+
+// Adds a character, unless it is white space to skip.
+fn add(c: u32, at: usize, s: State) -> Step
+    ensures { λ r. ⌜ r ≡ addOf isWhite c at s ⌝ }
+{
+    let place = s.place;
+    let first = s.first;
+    let next = State {
+        place,
+        first,
+        escape: Pending::Empty,
+        skip: 0,
+    };
+    if classes::is_white(c) {
+        if column(place) < s.skip {
+            return Step::Go(NOTHING, at, s);
+        }
+        return Step::Go(c, at, next);
+    }
+    Step::Go(c, at, next)
+}
+
+// A character with no escape pending.
+fn plain(q: u32, c: u32, at: usize, s: State) -> Step
+    ensures { λ r. ⌜ r ≡ plainOf isWhite q c at s ⌝ }
+{
+    if is_verbatim(q) {
+        return add(c, at, s);
+    }
+    if c == BACKSLASH {
+        let place = s.place;
+        let first = s.first;
+        let next = State {
+            place,
+            first,
+            escape: Pending::Backslash(down(at)),
+            skip: s.skip,
+        };
+        return Step::Go(NOTHING, at, next);
+    }
+    add(c, at, s)
+}
+
+// A character that is no line feed and does not vanish.
+fn other(text: &[u8], q: u32, c: u32, at: usize, s: State) -> Step
+    ensures { λ r. ⌜ r ≡ otherOf isWhite (now (text .entry)) q c at s ⌝ }
+{
+    let escape = s.escape;
+    match escape {
+        Pending::Empty => {
+            return plain(q, c, at, s);
+        }
+        Pending::Backslash(from) => {
+            return escaped(text, q, c, from, at, s);
+        }
+    }
+}
+
+// The Rust's match on the character, the offset being the one behind it.
+fn match_char(text: &[u8], q: u32, start: Position, c: u32, at: usize, s: State) -> Step
+    ensures { λ r. ⌜ r ≡ matchOf isWhite (now (text .entry)) q start c at s ⌝ }
+{
+    if c == CR {
+        if next_is(text, at, LF) {
+            return Step::Go(NOTHING, at, s);
+        }
+        return other(text, q, c, at, s);
+    }
+    if c == LF {
+        return line_feed(q, start, at, s);
+    }
+    other(text, q, c, at, s)
+}
+
+// Inner: what the character of a turn leads to, the cursor standing behind it.
+pub fn act(text: &[u8], q: u32, start: Position, c: u32, here: Cursor, s: State) -> Step
+    ensures { λ r. ⌜ r ≡ actOf isWhite (now (text .entry)) q start c here s ⌝ }
+{
+    let first = s.first;
+    let escape = s.escape;
+    let skip = s.skip;
+    let Closing::Open(to) = close(text, q, c, here, escape) else {
+        return Step::Over(Last::Good(End {
+            cursor: here,
+            first,
+            on_record: Terminator::NONE,
+            interpolated: false,
+        }));
+    };
+    let place = to.place;
+    let next = State {
+        place,
+        first: first.or_else(place),
+        escape,
+        skip,
+    };
+    match_char(text, q, start, c, to.at, next)
+}

@@ -1,0 +1,5 @@
+pub mod Readings
+pub mod Limited
+pub mod Sizes
+pub mod Turning
+pub mod Measuring

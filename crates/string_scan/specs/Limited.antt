@@ -1,0 +1,39 @@
+-- A turn under a limit, as the measuring loop makes it: what its answer tells of the reading.
+use Prim.Native.Nat.{ℕ, _≤_, _<_}
+use mathlib.Core.Bool.{false}
+use mathlib.Core.List.{List}
+use mathlib.Core.Path.{_≡_}
+use lib.ListN.{length}
+use Rattle.position.specs.declared.Position.{Position}
+use Rattle.utf8.specs.Encode.{encoded}
+use Rattle.chars.specs.Scan.{runAt}
+use Rattle.classes.specs.White.{isWhite}
+use Rattle.literal.specs.Trace.{Trace, adds, checks, passes}
+use Rattle.literal.specs.Cut.{cut}
+use Rattle.literal.specs.declared.Refusal.{Refusal}
+use Rattle.literal.specs.declared.Scanned.{Scanned}
+use Rattle.string_take.specs.declared.State.{State}
+use Rattle.string_scan.specs.Scans.{rule}
+use Rattle.string_scan.specs.declared.Turned.{Turned}
+use Rattle.string_scan.specs.declared.Turned.the-variants.{On, Over}
+
+-- what is left to read from an offset, in a state
+abbrev pub rest : List ℕ → ℕ → Position → ℕ → State → Trace
+rest t q start at s = runAt (rule isWhite t q start) t at s
+
+-- under a limit, with n bytes so far, a reading is answered so, whatever the room
+pub record Answers (limit n : ℕ) (x : Trace) (r : Scanned) : Type 0 where
+  pub is : (full : Refusal) (room : ℕ) → cut full limit room n x ≡ r
+
+-- it goes on: it is tested, it adds the bytes of a character, and the rest follows further on
+pub record GoesOn (limit n : ℕ) (t : List ℕ) (q : ℕ) (start : Position) (at : ℕ) (s : State) (d next : ℕ) (r : State) : Type 0 where
+  pub seven : Refusal
+  pub is : rest t q start at s ≡ checks seven (adds (encoded d) (rest t q start next r))
+  pub within : passes limit n ≡ false
+  pub low : at < next
+  pub high : next ≤ length t
+
+-- a turn's answer
+abbrev pub Tells : ℕ → ℕ → List ℕ → ℕ → Position → ℕ → State → Turned → Type 0
+Tells limit n t q start at s (On d next r) = GoesOn limit n t q start at s d next r
+Tells limit n t q start at s (Over a) = Answers limit n (rest t q start at s) a

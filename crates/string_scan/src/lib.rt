@@ -1,0 +1,159 @@
+// The scan of a string literal: the Rust's `parse_string_literal` with nothing written.
+ghost use mathlib.Core.Path.{_≡_};
+ghost use lib.ListN.{length};
+ghost use Rattle.classes.specs.White.{isWhite};
+ghost use Rattle.utf8.specs.Encode.{encoded};
+ghost use Rattle.literal.specs.Cut.{cut};
+ghost use Rattle.string_scan.specs.Ends.{argumentAt, tooLongAt, fullAt, lastOf};
+ghost use Rattle.string_scan.specs.Scans.{begun, readingOf};
+ghost use Rattle.string_scan.specs.Limited.{Answers, Tells};
+use chars::cursor::Cursor;
+use fault::Fault;
+use fault::Part;
+use literal::Refusal;
+use literal::Scanned;
+use literal::Terminator;
+use position::Position;
+use string_act::Step;
+use string_take::Got;
+use string_take::Last;
+use string_take::Pending;
+use string_take::State;
+
+// A turn under a limit: as Step, or the answer.
+enum Turned {
+    On(u32, usize, State),
+    Over(Scanned),
+}
+
+// How many bytes a character adds to the body.
+fn size(c: u32) -> usize
+    ensures { λ r. ⌜ r ≡ length (encoded c) ⌝ }
+{
+    if utf8::is_scalar(c) {
+        if c < 0x80 {
+            return 1;
+        }
+        if c < 0x800 {
+            return 2;
+        }
+        if c < 0x10000 {
+            return 3;
+        }
+        return 4;
+    }
+    0
+}
+
+// 7: what is on record there stays.
+fn too_long(start: Position, here: Cursor, on_record: Terminator) -> Refusal
+    ensures { λ r. ⌜ r ≡ tooLongAt start here on_record ⌝ }
+{
+    Refusal {
+        fault: Fault {
+            number: Fault::STRING_TOO_LONG,
+            place: start,
+            part: Part::NONE,
+        },
+        cursor: here,
+        on_record,
+    }
+}
+
+// A refusal that stands where the scan began.
+fn refused(number: u8, from: Cursor) -> Refusal
+    ensures { λ r. ⌜ r ≡ argumentAt number from ⌝ }
+{
+    let place = from.place;
+    Refusal {
+        fault: Fault {
+            number,
+            place,
+            part: Part::NONE,
+        },
+        cursor: from,
+        on_record: Terminator::NONE,
+    }
+}
+
+// How a scan is over under a limit, with a body of n bytes.
+fn answered(start: Position, limit: usize, n: usize, last: Last) -> Scanned
+    ensures { λ r. ⌜ Answers limit n (lastOf start last) r ⌝ }
+{
+    match last {
+        Last::Good(end) => {
+            if literal::is_over(limit, n) {
+                let here = end.cursor;
+                return Scanned::Refused(too_long(start, here, end.on_record));
+            }
+            return Scanned::Accepted(end, n);
+        }
+        Last::Bad(refusal) => {
+            return Scanned::Refused(refusal);
+        }
+    }
+}
+
+// A turn with n bytes in the body: the limit is tested between taking a character and acting on it.
+fn turn(text: &[u8], q: u32, start: Position, limit: usize, n: usize, at: usize, s: State) -> Turned
+    ensures { λ r. ⌜ Tells limit n (now (text .entry)) q start at s r ⌝ }
+{
+    match string_take::take(text, q, start, at, s) {
+        Got::Over(last) => {
+            return Turned::Over(answered(start, limit, n, last));
+        }
+        Got::Char(c, here) => {
+            if literal::is_over(limit, n) {
+                let on_record = Terminator { c: q, times: 1 };
+                return Turned::Over(Scanned::Refused(too_long(start, here, on_record)));
+            }
+            match string_act::act(text, q, start, c, here, s) {
+                Step::Over(last) => {
+                    return Turned::Over(answered(start, limit, n, last));
+                }
+                Step::Go(d, next, r) => {
+                    return Turned::On(d, next, r);
+                }
+            }
+        }
+    }
+}
+
+// Before the first turn.
+fn begun(place: Position) -> State
+    ensures { λ r. ⌜ r ≡ begun place ⌝ }
+{
+    State {
+        place,
+        first: Position::NONE,
+        escape: Pending::Empty,
+        skip: 0,
+    }
+}
+
+// Inner: the scan of a literal whose start is the cursor's place, with nothing written: how it ends and the length of the
+// body, within a limit and a room. It does not ask the arguments.
+pub fn measure(text: &[u8], from: Cursor, q: u32, limit: usize, room: usize) -> Scanned
+    ensures { λ r. ⌜ r ≡ cut (fullAt from) limit room 0 (readingOf isWhite (now (text .entry)) q from) ⌝ }
+{
+    let start = from.place;
+    let mut at = from.at;
+    let mut s = begun(start);
+    let mut n = 0;
+    loop {
+        match turn(text, q, start, limit, n, at, s) {
+            Turned::Over(r) => {
+                return r;
+            }
+            Turned::On(d, next, r) => {
+                let m = size(d);
+                if room - n < m {
+                    return Scanned::Refused(refused(Fault::NO_LITERAL_ROOM, from));
+                }
+                n += m;
+                at = next;
+                s = r;
+            }
+        }
+    }
+}

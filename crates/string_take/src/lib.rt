@@ -1,0 +1,190 @@
+// One turn of a string literal, its first half: a character is taken. The state between two turns, and how a scan is over.
+ghost use mathlib.Core.Bool.{false};
+ghost use mathlib.Core.Path.{_≡_};
+ghost use Rattle.string_take.specs.Kinds.{isVerbatim, isContinued, isInterpolated};
+ghost use Rattle.string_take.specs.Endings.{once, ending, unterminatedAt};
+ghost use Rattle.string_take.specs.Turns.{isEmpty, nextIs, endOf, dollarOf, takeOf};
+use chars::cursor::Cursor;
+use chars::cursor::Taken;
+use fault::Fault;
+use fault::Part;
+use literal::End;
+use literal::Refusal;
+use literal::Terminator;
+use position::Position;
+use utf8::Look;
+
+const QUOTE: u32 = 0x22;
+
+const DOLLAR: u32 = 0x24;
+
+const BACKSLASH: u32 = 0x5C;
+
+const BACKTICK: u32 = 0x60;
+
+const LEFT_BRACE: u32 = 0x7B;
+
+// What is pending of an escape: nothing, or a lone backslash, with the offset where it stands.
+pub enum Pending {
+    Empty,
+    Backslash(usize),
+}
+
+// What a turn leaves to the next one. White space in columns below `skip` is skipped.
+pub struct State {
+    pub place: Position,
+    pub first: Position,
+    pub escape: Pending,
+    pub skip: usize,
+}
+
+// How a scan is over, but for the limit, which is tested again at a good end.
+pub enum Last {
+    Good(End),
+    Bad(Refusal),
+}
+
+// The character of a turn and the cursor behind it, or how the scan is over.
+pub enum Got {
+    Char(u32, Cursor),
+    Over(Last),
+}
+
+// Text keeps its line feeds, and has no escapes.
+fn is_verbatim(q: u32) -> bool
+    ensures { λ r. ⌜ r ≡ isVerbatim q ⌝ }
+{
+    q == BACKTICK
+}
+
+// An ordinary literal goes on behind a backslash at the end of a line.
+fn is_continued(q: u32) -> bool
+    ensures { λ r. ⌜ r ≡ isContinued q ⌝ }
+{
+    q == QUOTE
+}
+
+// A piece of text ends at `${`.
+fn is_interpolated(q: u32) -> bool
+    ensures { λ r. ⌜ r ≡ isInterpolated q ⌝ }
+{
+    q == BACKTICK
+}
+
+impl Pending {
+    fn is_empty(self) -> bool
+        ensures { λ r. ⌜ r ≡ isEmpty self ⌝ }
+    {
+        match self {
+            Pending::Empty => true,
+            Pending::Backslash(_) => false,
+        }
+    }
+}
+
+// Whether the character at an offset is c.
+fn next_is(text: &[u8], at: usize, c: u32) -> bool
+    ensures { λ r. ⌜ r ≡ nextIs (now (text .entry)) at c ⌝ }
+{
+    let Look::Char(d, _) = utf8::look_at(text, at) else {
+        return false;
+    };
+    d == c
+}
+
+// 4: the record is cleared.
+fn unterminated(start: Position, here: Cursor) -> Refusal
+    ensures { λ r. ⌜ r ≡ unterminatedAt start here ⌝ }
+{
+    Refusal {
+        fault: Fault {
+            number: Fault::UNTERMINATED_STRING,
+            place: start,
+            part: Part::NONE,
+        },
+        cursor: here,
+        on_record: Terminator::NONE,
+    }
+}
+
+// The end of input adds a column. What may go on in a further text keeps its terminator on record.
+fn at_end(q: u32, start: Position, at: usize, s: State) -> Last
+    ensures { λ r. ⌜ r ≡ endOf q start at s ⌝ }
+{
+    let place = s.place.advanced();
+    let first = s.first;
+    let escape = s.escape;
+    let here = Cursor { at, place };
+    if is_verbatim(q) {
+        return still_open(q, here, first);
+    }
+    if is_continued(q) {
+        if escape.is_empty() {
+            return Last::Bad(unterminated(start, here));
+        }
+        return still_open(q, here, first);
+    }
+    Last::Bad(unterminated(start, here))
+}
+
+// An end that is accepted with the terminator on record.
+fn still_open(q: u32, here: Cursor, first: Position) -> Last
+    ensures { λ r. ⌜ r ≡ Last.Good (ending here first (once q) false) ⌝ }
+{
+    Last::Good(End {
+        cursor: here,
+        first,
+        on_record: Terminator { c: q, times: 1 },
+        interpolated: false,
+    })
+}
+
+// In text, a `$` or a backslash may be about an interpolation.
+fn dollar(text: &[u8], c: u32, here: Cursor, first: Position) -> Got
+    ensures { λ r. ⌜ r ≡ dollarOf (now (text .entry)) c here first ⌝ }
+{
+    if c == DOLLAR {
+        if next_is(text, here.at, LEFT_BRACE) {
+            return Got::Over(Last::Good(End {
+                cursor: here,
+                first,
+                on_record: Terminator::NONE,
+                interpolated: true,
+            }));
+        }
+        return Got::Char(c, here);
+    }
+    if c == BACKSLASH {
+        let Taken::Char(d, next) = here.get_next(text) else {
+            return Got::Char(c, here);
+        };
+        if d == DOLLAR {
+            if next_is(text, next.at, LEFT_BRACE) {
+                return Got::Char(DOLLAR, next);
+            }
+            return Got::Char(c, here);
+        }
+        return Got::Char(c, here);
+    }
+    Got::Char(c, here)
+}
+
+// Inner: the character of a turn that begins at an offset, taken with a column; or how the scan is over.
+pub fn take(text: &[u8], q: u32, start: Position, at: usize, s: State) -> Got
+    ensures { λ r. ⌜ r ≡ takeOf (now (text .entry)) q start at s ⌝ }
+{
+    let place = s.place;
+    let first = s.first;
+    let escape = s.escape;
+    let from = Cursor { at, place };
+    let Taken::Char(c, here) = from.eat_next_and_advance(text) else {
+        return Got::Over(at_end(q, start, at, s));
+    };
+    if is_interpolated(q) {
+        if escape.is_empty() {
+            return dollar(text, c, here, first);
+        }
+        return Got::Char(c, here);
+    }
+    Got::Char(c, here)
+}

@@ -1,0 +1,3 @@
+pub mod Standing
+pub mod Longer
+pub mod Examples
