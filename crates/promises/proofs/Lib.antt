@@ -5,3 +5,4 @@ pub mod RoundTrip
 pub mod Standing
 pub mod Shutting
 pub mod Calls
+pub mod Examples

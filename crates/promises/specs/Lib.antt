@@ -1,2 +1,4 @@
 pub mod LiteralPlaces
 pub mod RoundTrip
+pub mod Rows
+pub mod Table

@@ -114,6 +114,15 @@ extern "C" {
         answer: *mut u8,
         answer_room: usize,
     ) -> u32;
+
+    fn stew_raw_write(
+        body: *const u8,
+        length: usize,
+        out: *mut u8,
+        room: usize,
+        answer: *mut u8,
+        answer_room: usize,
+    ) -> u32;
 }
 
 // SAFETY, of every call below: the names are total. They read and write nothing but the slices
@@ -356,6 +365,19 @@ pub fn parse_string_literal(
             start.place.1,
             terminator,
             limit,
+            out.as_mut_ptr(),
+            out.len(),
+            answer.as_mut_ptr(),
+            answer.len(),
+        )
+    }
+}
+
+pub fn raw_write(body: &[u8], out: &mut [u8], answer: &mut [u8]) -> u32 {
+    unsafe {
+        stew_raw_write(
+            body.as_ptr(),
+            body.len(),
             out.as_mut_ptr(),
             out.len(),
             answer.as_mut_ptr(),

@@ -244,9 +244,15 @@ impl<'r> Identifiers<'r> {
 
     /// Starts that are refused, bad books, both at once, and answers too short for their row.
     fn refused(&mut self, books: &Books) {
-        each_odd_start(&mut |start| self.compare(start, &books.source));
-        for book in &bad_books() {
-            each_odd_start(&mut |start| self.compare(start, book));
+        let bad = bad_books();
+        each_odd_start(&mut |start| {
+            self.compare(start, &books.source);
+            self.compare(start, &bad[0]);
+        });
+        for book in &bad {
+            for text in ["a", "in", "is", "_", "é", ""] {
+                self.compare(Start::front(text, (1, 1)), book);
+            }
         }
         let (start, book) = (Start::front("a", (1, 1)), &books.source.bytes);
         compare_short_answers(self.report, NAME, 8, |answer| {

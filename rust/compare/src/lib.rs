@@ -27,6 +27,8 @@ pub mod string;
 pub mod texts;
 #[cfg(all(rhai_source, stew_archive))]
 pub mod token;
+#[cfg(all(rhai_source, stew_archive))]
+pub mod writer;
 
 /// Compares every function.
 #[cfg(all(rhai_source, stew_archive))]
@@ -39,6 +41,7 @@ pub fn compare(size: size::Size) -> report::Report {
         comment::run,
         raw::run,
         string::run,
+        writer::run,
     ] {
         subject(&mut report, size);
     }

@@ -23,7 +23,7 @@ const PIECES: [&str; 13] = [
 pub fn run(report: &mut Report, size: Size) {
     let mut literals = Literals::new(report);
     short_texts(&mut literals, size);
-    literals.random(&SCANS, &PIECES, size.of(100_000, 2_000_000));
+    literals.random(&SCANS, &PIECES, size.of(60_000, 2_000_000));
     long_texts(&mut literals);
     if size == Size::All {
         literals.longest(Scan::Resumed(1));

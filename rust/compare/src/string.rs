@@ -36,8 +36,9 @@ const PIECES: [&str; 40] = [
 pub fn run(report: &mut Report, size: Size) {
     let mut literals = Literals::new(report);
     short_texts(&mut literals, size);
+    characters(&mut literals, size);
     escapes(&mut literals, size);
-    literals.random(&SCANS, &PIECES, size.of(200_000, 4_000_000));
+    literals.random(&SCANS, &PIECES, size.of(60_000, 4_000_000));
     long_texts(&mut literals);
     if size == Size::All {
         literals.longest(BACKTICK);
@@ -65,6 +66,7 @@ fn short_texts(literals: &mut Literals, size: Size) {
         };
         literals.sweep(&[*scan], &own);
         let elsewhere = Sweep {
+            longest: size.of(4, 6),
             places: &PLACES,
             limits: &[0, 2],
             rooms: &[1, AMPLE],
@@ -77,6 +79,16 @@ fn short_texts(literals: &mut Literals, size: Size) {
             ..elsewhere
         };
         literals.sweep(&[*scan], &behind);
+    }
+}
+
+/// Every character, or every one up to the last that is white, where white ones are skipped.
+fn characters(literals: &mut Literals, size: Size) {
+    let last = size.of('\u{30ff}', char::MAX);
+    for ch in '\0'..=last {
+        let text = format!("\\\n{}\"", ch);
+        let start = Start::front(&text, (1, 1));
+        literals.compare(QUOTE, start, &[0], &[AMPLE]);
     }
 }
 
@@ -95,7 +107,7 @@ const EDGES: [u32; 10] = [
 /// Every class of digit, every number of four digits, and numbers of eight at the edges.
 fn escapes(literals: &mut Literals, size: Size) {
     each_text(&DIGITS, 2, &mut |digits| escape(literals, 'x', digits));
-    each_text(&DIGITS[..12], 4, &mut |digits| {
+    each_text(&DIGITS[..size.of(8, 12)], 4, &mut |digits| {
         escape(literals, 'u', digits)
     });
     each_text(&['0', '1', 'd', 'F'], size.of(5, 8), &mut |digits| {

@@ -1,0 +1,28 @@
+-- Each byte is passed once.
+use Prim.Native.Nat.{_-_, _≤_, _<_}
+use lib.ListN.{length}
+use borrow.Author.Needs.{needs}
+use Rattle.replay.proofs.ask.name_end.Statement.{statement}
+use Rattle.replay.proofs.ask.name_end.Tie as tie
+
+abbrev Inv-loop : tie.InvT-loop
+Inv-loop names from at₀ at = (from < at) × (at ≤ length names)
+
+abbrev μ-loop : tie.MeasureT-loop
+μ-loop names from at₀ at = length names - at
+
+pub name-end-spec : {M : Type 1} → statement M
+name-end-spec =
+    tie.close
+    (tie.spec
+    Inv-loop
+    μ-loop
+    (λ c. search needs)
+    (λ c. search needs)
+    (λ c. search needs)
+    (λ c. search needs)
+    (λ c. search needs)
+    (λ c. search needs)
+    (λ c. search needs)
+    (λ c. search needs)
+    (λ c. search needs))
