@@ -86,12 +86,12 @@ impl<'r> Writer<'r> {
     fn compare(&mut self, body: &[u8]) {
         let enough = right(body, usize::MAX).map_or(0, |literal| literal.len());
         for room in [0, enough.saturating_sub(1), enough, enough + 3] {
-            self.compare_in(body, room);
+            self.compare_in(body, room, right(body, room));
         }
     }
 
-    fn compare_in(&mut self, body: &[u8], room: usize) {
-        let (returned, why, literal) = match right(body, room) {
+    fn compare_in(&mut self, body: &[u8], room: usize, right: Result<String, (u32, Why)>) {
+        let (returned, why, literal) = match right {
             Ok(literal) => (0, None, literal),
             Err((number, why)) => (number, Some(why), String::new()),
         };
@@ -138,11 +138,20 @@ impl<'r> Writer<'r> {
             .same("raw_write, read back", given, read, Some(right));
     }
 
-    /// The longest body that is taken, one that is too long, and a literal that is too long for a script.
+    /// The longest body that is taken, one that is too long, and the shortest literal that is longer
+    /// than a script may be.
     fn long_bodies(&mut self) {
-        self.compare_in(&vec![b'a'; LONGEST], LONGEST + 4);
-        self.compare_in(&vec![b'a'; LONGEST + 1], 0);
-        self.compare_in(&vec![0x80; LONGEST + 1], 0);
+        let plain = vec![b'a'; LONGEST];
+        self.compare_in(&plain, LONGEST + 4, right(&plain, LONGEST + 4));
+        for byte in [b'a', 0x80] {
+            let long = vec![byte; LONGEST + 1];
+            self.compare_in(&long, 0, right(&long, 0));
+        }
+        let hashes = "#".repeat(5_592_404);
+        let body = format!("\"{}", hashes);
+        let literal = format!("#{0}\"{1}\"#{0}", hashes, body);
+        assert_eq!(literal.len(), LONGEST + 1);
+        self.compare_in(body.as_bytes(), LONGEST + 1, Ok(literal));
     }
 
     /// An answer that is too short for the length: nothing is written, and a bad body goes first.
