@@ -1,10 +1,11 @@
 -- Worked examples of the words. Assumes nothing.
 use mathlib.Core.Path.{_≡_, refl}
 use Rattle.basis.specs.Words.{word}
-use Rattle.position.specs.Place.{place, none, start, given, isNone, beginsLine, unwrapOr, numbered, lineOf, positionOf}
+use Rattle.position.specs.Place.{place, none, start, given, lineNumber, columnNumber, isNone, beginsLine}
+use Rattle.coordinates.specs.Coordinates.{numbered, lineOf}
 use Rattle.span.specs.Spans.{newSpan, noSpan, startOf, endOf}
 use Rattle.display.specs.Decimal.{digit, digits, decimal}
-use Rattle.display.specs.Forms.{lineNumber, columnNumber, colonOf, displayOf, debugOf, sameOption, sameLine, apart, dashed, between, spanOf}
+use Rattle.display.specs.Forms.{colonOf, longOf, displayOf, debugOf, sameOption, sameLine, apart, dashed, between, spanOf}
 
 displays :
     (displayOf none ≡ word "none")
@@ -12,7 +13,7 @@ displays :
     × (displayOf (given 3 7) ≡ word "line 3, position 7")
     × (displayOf (given 0 5) ≡ word "line 0, position 5")
     × (displayOf (given 65535 10) ≡ word "line 65535, position 10")
-unfolding displayOf lineNumber columnNumber none start given isNone unwrapOr numbered lineOf positionOf digit digits decimal word
+unfolding displayOf longOf lineNumber columnNumber none start given isNone digit digits decimal word
 displays = (refl, refl, refl, refl, refl)
 
 debugs :
@@ -20,7 +21,7 @@ debugs :
     × (debugOf start ≡ word "1")
     × (debugOf (given 3 7) ≡ word "3:7")
     × (debugOf (given 0 5) ≡ word "0:5")
-unfolding debugOf colonOf lineNumber columnNumber none start given isNone beginsLine unwrapOr numbered lineOf positionOf digit digits decimal word
+unfolding debugOf colonOf lineNumber columnNumber none start given isNone beginsLine digit digits decimal word
 debugs = (refl, refl, refl, refl)
 
 spans :
@@ -32,5 +33,5 @@ spans :
     × (spanOf (newSpan (given 1 9) (given 1 15)) ≡ word "1:9-15")
     × (spanOf (newSpan start start) ≡ word "1:0-0")
 unfolding
-    spanOf between sameLine apart dashed sameOption newSpan noSpan startOf endOf debugOf colonOf lineNumber columnNumber none start given isNone beginsLine unwrapOr numbered lineOf positionOf digit digits decimal word
+    spanOf between sameLine apart dashed sameOption newSpan noSpan startOf endOf debugOf colonOf lineNumber columnNumber none start given isNone beginsLine numbered lineOf digit digits decimal word
 spans = (refl, refl, refl, refl, refl, refl, refl)

@@ -6,30 +6,25 @@ use lib.Dec.{eqb}
 use Rattle.basis.specs.Pick.{pick, both, isnt}
 use Rattle.basis.specs.Words.{word}
 use Rattle.position.specs.declared.Position.{Position}
-use Rattle.position.specs.declared.Coordinate.{Coordinate}
-use Rattle.position.specs.declared.Coordinate.the-variants.{Some, None}
+use Rattle.coordinates.specs.declared.Coordinate.{Coordinate}
+use Rattle.coordinates.specs.declared.Coordinate.the-variants.{Some, None}
 use Rattle.span.specs.declared.Span.{Span}
-use Rattle.position.specs.Place.{none, isNone, beginsLine, unwrapOr, lineOf, positionOf}
+use Rattle.position.specs.Place.{none, isNone, beginsLine, lineNumber, columnNumber}
+use Rattle.coordinates.specs.Coordinates.{lineOf}
 use Rattle.span.specs.Spans.{startOf, endOf}
 use Rattle.display.specs.Decimal.{decimal}
-
--- the Rust's `self.line`: 0 where the place answers none
-unfoldable pub lineNumber : Position → ℕ
-lineNumber p = unwrapOr (lineOf p) 0
-
--- the Rust's `self.pos`: 0 where the place answers none
-unfoldable pub columnNumber : Position → ℕ
-columnNumber p = unwrapOr (positionOf p) 0
 
 -- "3:7"
 unfoldable pub colonOf : Position → List ℕ
 colonOf p = decimal (lineNumber p) ++ word ":" ++ decimal (columnNumber p)
 
+-- "line 3, position 7"
+unfoldable pub longOf : Position → List ℕ
+longOf p = word "line " ++ decimal (lineNumber p) ++ word ", position " ++ decimal (columnNumber p)
+
 -- Display for Position: "none", "line 3, position 7"
 unfoldable pub displayOf : Position → List ℕ
-displayOf p =
-    pick (isNone p) (word "none")
-    (word "line " ++ decimal (lineNumber p) ++ word ", position " ++ decimal (columnNumber p))
+displayOf p = pick (isNone p) (word "none") (longOf p)
 
 -- Debug for Position: "none", "3", "3:7"
 unfoldable pub debugOf : Position → List ℕ

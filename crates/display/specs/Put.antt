@@ -6,7 +6,7 @@ use Rattle.basis.specs.Store.{Stored}
 use Rattle.display.specs.declared.Text.{Text}
 
 -- no byte yet
-unfoldable pub empty : Text
+abbrev pub empty : Text
 empty = record { bytes = replicate 32 0; len = 0 }
 
 -- the text so far

@@ -5,10 +5,10 @@ use mathlib.Core.Path.{_≡_, refl}
 use lib.Dec.{eqb}
 use borrow.Author.Tests.{eq-eqb, ne-eqb}
 use Rattle.basis.specs.Pick.{pick}
-use Rattle.position.specs.Place.{onLine, unwrapOr, positionOf, advanced, lined, rewound}
+use Rattle.position.specs.Place.{onLine, columnNumber, advanced, lined, rewound}
 use Rattle.position.specs.declared.Position.{Position}
-use Rattle.position.specs.declared.Placed.{Placed}
-use Rattle.position.specs.declared.Placed.the-variants.{At, Refused}
+use Rattle.coordinates.specs.declared.Placed.{Placed}
+use Rattle.coordinates.specs.declared.Placed.the-variants.{At, Refused}
 use Rattle.moves.specs.Moves.{moved, advanceOf, newLineOf, rewindOf}
 
 pick-same : (a : Bool) (x : Placed) → pick a x x ≡ x
@@ -25,13 +25,13 @@ module _ (p : Position) where
     unfolding newLineOf moved
     starts-line = rw h
 
-    pub rewinds : (unwrapOr (positionOf p) 0 ≡ 0 → ⊥) → rewindOf p ≡ At (rewound p)
+    pub rewinds : (columnNumber p ≡ 0 → ⊥) → rewindOf p ≡ At (rewound p)
     unfolding rewindOf moved
-    rewinds n = rw (ne-eqb (unwrapOr (positionOf p) 0) 0 n, h)
+    rewinds n = rw (ne-eqb (columnNumber p) 0 n, h)
 
-  pub begins-refused : unwrapOr (positionOf p) 0 ≡ 0 → rewindOf p ≡ Refused 3
+  pub begins-refused : columnNumber p ≡ 0 → rewindOf p ≡ Refused 3
   unfolding rewindOf
-  begins-refused z = rw (eq-eqb (unwrapOr (positionOf p) 0) 0 z)
+  begins-refused z = rw (eq-eqb (columnNumber p) 0 z)
 
   module _ (h : onLine p ≡ false) where
     pub advance-refused : advanceOf p ≡ Refused 3
@@ -44,4 +44,4 @@ module _ (p : Position) where
 
     pub rewind-refused : rewindOf p ≡ Refused 3
     unfolding rewindOf moved
-    rewind-refused = rw h (pick-same (eqb (unwrapOr (positionOf p) 0) 0) (Refused 3))
+    rewind-refused = rw h (pick-same (eqb (columnNumber p) 0) (Refused 3))

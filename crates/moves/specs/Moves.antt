@@ -2,10 +2,10 @@
 use Prim.Native.Nat.{ℕ}
 use lib.Dec.{eqb}
 use Rattle.basis.specs.Pick.{pick}
-use Rattle.position.specs.Place.{onLine, unwrapOr, positionOf, advanced, lined, rewound}
+use Rattle.position.specs.Place.{onLine, columnNumber, advanced, lined, rewound}
 use Rattle.position.specs.declared.Position.{Position}
-use Rattle.position.specs.declared.Placed.{Placed}
-use Rattle.position.specs.declared.Placed.the-variants.{At, Refused}
+use Rattle.coordinates.specs.declared.Placed.{Placed}
+use Rattle.coordinates.specs.declared.Placed.the-variants.{At, Refused}
 
 -- a move from one place to another: on line 0 it is 3
 unfoldable pub moved : Position → Position → Placed
@@ -21,4 +21,4 @@ newLineOf p = moved p (lined p)
 
 -- the Rust's `rewind`: at column 0 it is 3 too
 unfoldable pub rewindOf : Position → Placed
-rewindOf p = pick (eqb (unwrapOr (positionOf p) 0) 0) (Refused 3) (moved p (rewound p))
+rewindOf p = pick (eqb (columnNumber p) 0) (Refused 3) (moved p (rewound p))

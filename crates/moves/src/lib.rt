@@ -1,7 +1,7 @@
 // Moves of a place that document 01 refuses where the Rust panics: `advance`, `rewind` and `new_line` of types/position.rs.
 ghost use mathlib.Core.Path.{_≡_};
 ghost use Rattle.moves.specs.Moves.{moved, advanceOf, rewindOf, newLineOf};
-use position::Placed;
+use coordinates::Placed;
 use position::Position;
 
 // A move, which no place on line 0 makes: the Rust refuses only NONE.
@@ -23,7 +23,7 @@ pub fn advance(p: Position) -> Placed
 pub fn rewind(p: Position) -> Placed
     ensures { λ r. ⌜ r ≡ rewindOf p ⌝ }
 {
-    if p.position().unwrap_or(0) == 0 {
+    if p.column_number() == 0 {
         return Placed::Refused(3);
     }
     moved(p, p.rewound())

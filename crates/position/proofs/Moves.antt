@@ -3,33 +3,29 @@
 use Prim.Native.Nat.{ℕ, _+_, _-_, _≤_, _<_, min}
 use native.Mathlib.Omega.{arith}
 use mathlib.Core.Bool.{Bool, true, false}
+use mathlib.Core.Logic.{⊎-elim}
 use mathlib.Core.Path.{_≡_, refl, sym, ap, _∙_}
 use lib.Dec.{eqb}
 use borrow.Author.Tests.{eq-eqb, ne-eqb, eqb-true}
-use Rattle.basis.specs.Pick.{pick, both, isnt}
-use Rattle.basis.proofs.Cases.{pick-cases, not-both, both-left, both-right, both-no}
+use Rattle.basis.specs.Pick.{both, isnt}
+use Rattle.basis.proofs.Bounds.{split}
+use Rattle.basis.proofs.Cases.{not-both, both-left, both-right}
 use Rattle.position.specs.Place.{
   place,
   none,
   start,
   given,
+  lineNumber,
+  columnNumber,
   isNone,
   onLine,
   beginsLine,
-  unwrapOr,
-  numbered,
-  lineOf,
-  positionOf,
   up,
   advanced,
   lined,
   rewound,
-  newOf,
 }
 use Rattle.position.specs.declared.Position.{Position}
-use Rattle.position.specs.declared.Placed.the-variants.{At, Refused}
-use Rattle.position.specs.declared.Coordinate.{Coordinate}
-use Rattle.position.specs.declared.Coordinate.the-variants.{Some, None}
 
 -- the constants, by their names; no place but NONE is none
 pub none-is : place 0 0 ≡ none
@@ -73,21 +69,6 @@ up-some : (n : ℕ) → up n ≡ 0 → ⊥
 unfolding up
 up-some n h = omega arith
 
--- what the coordinates say, with 0 where there is none, is what the place has
-line-number : (p : Position) → unwrapOr (lineOf p) 0 ≡ p .line
-unfolding unwrapOr lineOf numbered isNone
-line-number p =
-    pick-cases (λ (x : Coordinate). unwrapOr x 0 ≡ p .line) (isNone p) None (Some (p .line))
-    (λ e. sym (eqb-true (p .line) 0 (both-left (eqb (p .line) 0) (eqb (p .pos) 0) e)))
-    (λ e. refl)
-
-column-number : (p : Position) → unwrapOr (positionOf p) 0 ≡ p .pos
-unfolding unwrapOr positionOf numbered isNone
-column-number p =
-    pick-cases (λ (x : Coordinate). unwrapOr x 0 ≡ p .pos) (eqb (p .pos) 0) None (numbered p (p .pos))
-    (λ e. sym (eqb-true (p .pos) 0 e))
-    (λ e. rw (e, both-no (eqb (p .line) 0)))
-
 module _ (p : Position) where
   -- moves keep to a line
   pub advanced-on : onLine (advanced p) ≡ onLine p
@@ -108,59 +89,67 @@ module _ (p : Position) where
     unfolding onLine isNone
     on-some = isnt-both (eqb (p .line) 0) (eqb (p .pos) 0) h
 
-    pub column-zero : beginsLine p ≡ eqb (p .pos) 0
-    unfolding beginsLine
+    pub column-zero : beginsLine p ≡ eqb (columnNumber p) 0
+    unfolding beginsLine columnNumber
     column-zero = rw on-some (both-yes (eqb (p .pos) 0))
 
+    pub on-line : 1 ≤ lineNumber p
+    unfolding onLine lineNumber
+    on-line =
+        ⊎-elim
+        (λ (z : p .line < 1). not-both h (ap isnt (eq-eqb (p .line) 0 (omega arith))))
+        (λ (g : 1 ≤ p .line). g)
+        (split (p .line) 1)
+
   -- the moves in numbers
-  pub advanced-line : unwrapOr (lineOf (advanced p)) 0 ≡ unwrapOr (lineOf p) 0
-  unfolding advanced
-  advanced-line = line-number (advanced p) ∙ sym (line-number p)
+  pub advanced-line : lineNumber (advanced p) ≡ lineNumber p
+  unfolding lineNumber advanced
+  advanced-line = refl
 
-  pub advanced-column : unwrapOr (positionOf (advanced p)) 0 ≡ up (unwrapOr (positionOf p) 0)
-  unfolding advanced
-  advanced-column = column-number (advanced p) ∙ ap up (sym (column-number p))
+  pub advanced-column : columnNumber (advanced p) ≡ up (columnNumber p)
+  unfolding columnNumber advanced
+  advanced-column = refl
 
-  pub lined-line : unwrapOr (lineOf (lined p)) 0 ≡ up (unwrapOr (lineOf p) 0)
-  unfolding lined
-  lined-line = line-number (lined p) ∙ ap up (sym (line-number p))
+  pub lined-line : lineNumber (lined p) ≡ up (lineNumber p)
+  unfolding lineNumber lined
+  lined-line = refl
 
-  pub lined-column : unwrapOr (positionOf (lined p)) 0 ≡ 0
-  unfolding lined
-  lined-column = column-number (lined p)
+  pub lined-column : columnNumber (lined p) ≡ 0
+  unfolding columnNumber lined
+  lined-column = refl
 
-  pub rewound-line : unwrapOr (lineOf (rewound p)) 0 ≡ unwrapOr (lineOf p) 0
-  unfolding rewound
-  rewound-line = line-number (rewound p) ∙ sym (line-number p)
+  pub rewound-line : lineNumber (rewound p) ≡ lineNumber p
+  unfolding lineNumber rewound
+  rewound-line = refl
 
-  pub rewound-column : unwrapOr (positionOf (rewound p)) 0 ≡ unwrapOr (positionOf p) 0 - 1
-  unfolding rewound
-  rewound-column = column-number (rewound p) ∙ ap (λ (n : ℕ). n - 1) (sym (column-number p))
+  pub rewound-column : columnNumber (rewound p) ≡ columnNumber p - 1
+  unfolding columnNumber rewound
+  rewound-column = refl
 
   -- back from one column on
-  pub rewound-advanced : unwrapOr (positionOf p) 0 < 65535 → rewound (advanced p) ≡ p
-  unfolding rewound advanced up
-  rewound-advanced h = ap (place (p .line)) (let e : p .pos < 65535 = rw (column-number p) at h in omega arith)
+  pub rewound-advanced : columnNumber p < 65535 → rewound (advanced p) ≡ p
+  unfolding columnNumber rewound advanced up
+  rewound-advanced h = ap (place (p .line)) (omega arith)
 
   -- a move that is at its end changes nothing: the last column, the last line at its beginning, column 0
-  pub advanced-stays : unwrapOr (positionOf p) 0 ≡ 65535 → advanced p ≡ p
-  unfolding advanced up
-  advanced-stays h = ap (place (p .line)) (let e : p .pos ≡ 65535 = rw (column-number p) at h in omega arith)
+  pub advanced-stays : columnNumber p ≡ 65535 → advanced p ≡ p
+  unfolding columnNumber advanced up
+  advanced-stays h = ap (place (p .line)) (omega arith)
 
-  pub lined-stays : unwrapOr (lineOf p) 0 ≡ 65535 → unwrapOr (positionOf p) 0 ≡ 0 → lined p ≡ p
-  unfolding lined up
+  pub lined-stays : lineNumber p ≡ 65535 → columnNumber p ≡ 0 → lined p ≡ p
+  unfolding lineNumber columnNumber lined up
   lined-stays h g =
-      let e : min (p .line + 1) 65535 ≡ p .line = let k : p .line ≡ 65535 = rw (line-number p) at h in omega arith in
-      rw e (ap (place (p .line)) (sym (rw (column-number p) at g)))
+      let e : min (p .line + 1) 65535 ≡ p .line = omega arith in
+      rw e (ap (place (p .line)) (sym g))
 
-  pub rewound-stays : unwrapOr (positionOf p) 0 ≡ 0 → rewound p ≡ p
-  unfolding rewound
-  rewound-stays h = ap (place (p .line)) (let e : p .pos ≡ 0 = rw (column-number p) at h in omega arith)
+  pub rewound-stays : columnNumber p ≡ 0 → rewound p ≡ p
+  unfolding columnNumber rewound
+  rewound-stays h = ap (place (p .line)) (omega arith)
 
   -- a place is its two numbers
-  pub given-numbers : given (unwrapOr (lineOf p) 0) (unwrapOr (positionOf p) 0) ≡ p
-  unfolding given
-  given-numbers = rw (line-number p, column-number p)
+  pub given-numbers : given (lineNumber p) (columnNumber p) ≡ p
+  unfolding given lineNumber columnNumber
+  given-numbers = refl
 
 -- two numbers from outside, and out again
 module _ (l c : ℕ) where
@@ -172,19 +161,10 @@ module _ (l c : ℕ) where
   unfolding isNone given
   given-none = refl
 
-  pub given-line : unwrapOr (lineOf (given l c)) 0 ≡ l
-  unfolding given
-  given-line = line-number (place l c)
+  pub given-line : lineNumber (given l c) ≡ l
+  unfolding lineNumber given
+  given-line = refl
 
-  pub given-column : unwrapOr (positionOf (given l c)) 0 ≡ c
-  unfolding given
-  given-column = column-number (place l c)
-
-  -- a new place is the one given, and line 0 is refused
-  pub new-given : (l ≡ 0 → ⊥) → newOf l c ≡ At (given l c)
-  unfolding newOf
-  new-given h = rw (ne-eqb l 0 h)
-
-  pub new-refused : l ≡ 0 → newOf l c ≡ Refused 3
-  unfolding newOf
-  new-refused h = rw (eq-eqb l 0 h)
+  pub given-column : columnNumber (given l c) ≡ c
+  unfolding columnNumber given
+  given-column = refl

@@ -4,10 +4,6 @@ use mathlib.Core.Bool.{Bool}
 use lib.Dec.{eqb}
 use Rattle.basis.specs.Pick.{pick, both, isnt}
 use Rattle.position.specs.declared.Position.{Position}
-use Rattle.position.specs.declared.Placed.{Placed}
-use Rattle.position.specs.declared.Placed.the-variants.{At, Refused}
-use Rattle.position.specs.declared.Coordinate.{Coordinate}
-use Rattle.position.specs.declared.Coordinate.the-variants.{Some, None}
 
 -- the place at a line and a column
 abbrev pub place : ℕ → ℕ → Position
@@ -25,10 +21,12 @@ start = place 1 0
 unfoldable pub given : ℕ → ℕ → Position
 given l c = place l c
 
--- the number of the refusal, 0 for a place
-unfoldable pub placedNumber : Placed → ℕ
-placedNumber (At p) = 0
-placedNumber (Refused n) = n
+-- the numbers of a place, 0 where it has none: the Rust's fields `line` and `pos`
+unfoldable pub lineNumber : Position → ℕ
+lineNumber p = p .line
+
+unfoldable pub columnNumber : Position → ℕ
+columnNumber p = p .pos
 
 -- the Rust's `is_none`
 unfoldable pub isNone : Position → Bool
@@ -41,23 +39,6 @@ onLine p = isnt (eqb (p .line) 0)
 -- the Rust's `is_beginning_of_line`
 unfoldable pub beginsLine : Position → Bool
 beginsLine p = both (eqb (p .pos) 0) (isnt (isNone p))
-
--- the Rust's `unwrap_or`
-unfoldable pub unwrapOr : Coordinate → ℕ → ℕ
-unwrapOr (Some n) other = n
-unwrapOr None other = other
-
--- a number of a place: NONE has none
-unfoldable pub numbered : Position → ℕ → Coordinate
-numbered p n = pick (isNone p) None (Some n)
-
--- the Rust's `line`
-unfoldable pub lineOf : Position → Coordinate
-lineOf p = numbered p (p .line)
-
--- the Rust's `position`: none at the beginning of a line too
-unfoldable pub positionOf : Position → Coordinate
-positionOf p = pick (eqb (p .pos) 0) None (numbered p (p .pos))
 
 -- the Rust's `or_else`
 unfoldable pub orElse : Position → Position → Position
@@ -78,7 +59,3 @@ lined p = place (up (p .line)) 0
 -- one column back, column 0 staying
 unfoldable pub rewound : Position → Position
 rewound p = place (p .line) (p .pos - 1)
-
--- the Rust's `new`: line 0 is 3
-unfoldable pub newOf : ℕ → ℕ → Placed
-newOf l c = pick (eqb l 0) (Refused 3) (At (given l c))

@@ -1,21 +1,16 @@
 // Places in a script, a line and a column of at most 65,535 each: the type Position of types/position.rs, and its moves for the scanners.
-ghost use Prim.Native.Nat.{_-_, _≤_};
 ghost use mathlib.Core.Path.{_≡_};
 ghost use Rattle.position.specs.Place.{
-  up,
   given,
-  advanced,
-  lined,
-  rewound,
+  lineNumber,
+  columnNumber,
   isNone,
   onLine,
   beginsLine,
-  unwrapOr,
-  numbered,
-  lineOf,
-  positionOf,
   orElse,
-  newOf,
+  advanced,
+  lined,
+  rewound,
 };
 
 pub struct Position {
@@ -25,67 +20,10 @@ pub struct Position {
     pos: u16,
 }
 
-// A place, or the number of the refusal.
-pub enum Placed {
-    At(Position),
-    Refused(u8),
-}
-
-// The Rust's Option<usize>.
-pub enum Coordinate {
-    Some(usize),
-    None,
-}
-
-impl Coordinate {
-    pub fn unwrap_or(self, other: usize) -> usize
-        ensures { λ r. ⌜ r ≡ unwrapOr self other ⌝ }
-    {
-        match self {
-            Coordinate::Some(n) => n,
-            Coordinate::None => other,
-        }
-    }
-}
-
-// The Rust's saturating_add(1).
-fn up(n: u16) -> u16
-    ensures { λ r. ⌜ r ≡ up n ⌝ }
-{
-    if n < 65535 { n + 1 } else { 65535 }
-}
-
-// The Rust's saturating_sub(1).
-fn down(n: u16) -> u16
-    ensures { λ r. ⌜ r ≡ n - 1 ⌝ }
-{
-    if 0 < n { n - 1 } else { 0 }
-}
-
-// A number of a place, which NONE has not. It is at most 65,535, so that a caller can cast it.
-fn numbered(p: Position, n: u16) -> Coordinate
-    ensures { λ r. ⌜ (r ≡ numbered p n) × (unwrapOr r 0 ≤ 65535) ⌝ }
-{
-    if p.is_none() {
-        Coordinate::None
-    } else {
-        Coordinate::Some(n as usize)
-    }
-}
-
 impl Position {
     pub const NONE: Self = Self { line: 0, pos: 0 };
 
     pub const START: Self = Self { line: 1, pos: 0 };
-
-    pub fn new(line: u16, position: u16) -> Placed
-        ensures { λ r. ⌜ r ≡ newOf line position ⌝ }
-    {
-        if line == 0 {
-            return Placed::Refused(3);
-        }
-        Placed::At(Self::given(line, position))
-    }
 
     // Two numbers from outside, line 0 too: whatever takes a place refuses that line itself.
     pub fn given(line: u16, position: u16) -> Self
@@ -97,19 +35,17 @@ impl Position {
         }
     }
 
-    pub fn line(self) -> Coordinate
-        ensures { λ r. ⌜ (r ≡ lineOf self) × (unwrapOr r 0 ≤ 65535) ⌝ }
+    // The two numbers out again, 0 where the place has none.
+    pub fn line_number(self) -> u16
+        ensures { λ r. ⌜ r ≡ lineNumber self ⌝ }
     {
-        numbered(self, self.line)
+        self.line
     }
 
-    pub fn position(self) -> Coordinate
-        ensures { λ r. ⌜ (r ≡ positionOf self) × (unwrapOr r 0 ≤ 65535) ⌝ }
+    pub fn column_number(self) -> u16
+        ensures { λ r. ⌜ r ≡ columnNumber self ⌝ }
     {
-        if self.pos == 0 {
-            return Coordinate::None;
-        }
-        numbered(self, self.pos)
+        self.pos
     }
 
     pub fn is_beginning_of_line(self) -> bool
@@ -124,20 +60,17 @@ impl Position {
     pub fn is_none(self) -> bool
         ensures { λ r. ⌜ r ≡ isNone self ⌝ }
     {
-        if self.line != 0 {
-            return false;
+        if self.line == 0 {
+            return self.pos == 0;
         }
-        self.pos == 0
+        false
     }
 
     // Whether the place is on a line at all: a scan from one that is not is refused.
     pub fn is_on_line(self) -> bool
         ensures { λ r. ⌜ r ≡ onLine self ⌝ }
     {
-        if 0 < self.line {
-            return true;
-        }
-        false
+        0 < self.line
     }
 
     pub fn or_else(self, pos: Position) -> Self
@@ -149,21 +82,30 @@ impl Position {
         self
     }
 
-    // The moves with no refusal, for a scan whose start was found good.
+    // The moves with no refusal, for a scan whose start was found good: a number at its end stays there.
     pub fn advanced(self) -> Self
         ensures { λ r. ⌜ r ≡ advanced self ⌝ }
     {
+        if self.pos == 65535 {
+            return self;
+        }
         Self {
             line: self.line,
-            pos: up(self.pos),
+            pos: self.pos + 1,
         }
     }
 
     pub fn lined(self) -> Self
         ensures { λ r. ⌜ r ≡ lined self ⌝ }
     {
+        if self.line == 65535 {
+            return Self {
+                line: 65535,
+                pos: 0,
+            };
+        }
         Self {
-            line: up(self.line),
+            line: self.line + 1,
             pos: 0,
         }
     }
@@ -171,9 +113,12 @@ impl Position {
     pub fn rewound(self) -> Self
         ensures { λ r. ⌜ r ≡ rewound self ⌝ }
     {
+        if self.pos == 0 {
+            return self;
+        }
         Self {
             line: self.line,
-            pos: down(self.pos),
+            pos: self.pos - 1,
         }
     }
 }

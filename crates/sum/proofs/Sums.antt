@@ -5,10 +5,10 @@ use mathlib.Core.Bool.{Bool, true, false}
 use mathlib.Core.Path.{_≡_, sym, ap, _∙_}
 use borrow.Author.Tests.{eq-eqb, ne-eqb, lt-ltb, le-ltb}
 use Rattle.basis.proofs.Cases.{both-no}
-use Rattle.position.specs.Place.{given, isNone, onLine}
+use Rattle.position.specs.Place.{given, lineNumber, columnNumber, isNone, onLine}
 use Rattle.position.specs.declared.Position.{Position}
-use Rattle.position.specs.declared.Placed.{Placed}
-use Rattle.position.specs.declared.Placed.the-variants.{At, Refused}
+use Rattle.coordinates.specs.declared.Placed.{Placed}
+use Rattle.coordinates.specs.declared.Placed.the-variants.{At, Refused}
 use Rattle.sum.specs.Sum.{passes, sumOn, sumLines, sumOf}
 
 module _ (p q : Position) where
@@ -30,14 +30,14 @@ module _ (p q : Position) where
     both-on h g = rw (n, h, g)
 
   -- the numbers as they were asked for
-  module _ {a b : ℕ} (l : a ≡ p .line) (r : b ≡ q .line) where
+  module _ {a b : ℕ} (l : a ≡ lineNumber p) (r : b ≡ lineNumber q) where
     pub lines-pass : 65535 < a + b → Refused 15 ≡ sumLines p q
     unfolding sumLines passes
-    lines-pass m = rw (lt-ltb 65535 (p .line + q .line) (rw (← l, ← r) m))
+    lines-pass m = rw (lt-ltb 65535 (lineNumber p + lineNumber q) (rw (← l, ← r) m))
 
-    pub lines-fit : {c d : ℕ} → c ≡ p .pos → d ≡ q .pos → a + b ≤ 65535 → sumOn (a + b - 1) c d ≡ sumLines p q
+    pub lines-fit : {c d : ℕ} → c ≡ columnNumber p → d ≡ columnNumber q → a + b ≤ 65535 → sumOn (a + b - 1) c d ≡ sumLines p q
     unfolding sumLines passes
-    lines-fit h g m = rw (le-ltb 65535 (p .line + q .line) (rw (← l, ← r) m), l, r, h, g)
+    lines-fit h g m = rw (le-ltb 65535 (lineNumber p + lineNumber q) (rw (← l, ← r) m), l, r, h, g)
 
 module _ (line c d : ℕ) where
   pub no-column : d ≡ 0 → At (given line c) ≡ sumOn line c d

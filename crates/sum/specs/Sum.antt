@@ -3,10 +3,10 @@ use Prim.Native.Nat.{ℕ, _+_, _-_}
 use mathlib.Core.Bool.{Bool}
 use lib.Dec.{ltb, eqb}
 use Rattle.basis.specs.Pick.{pick, both}
-use Rattle.position.specs.Place.{given, isNone, onLine}
+use Rattle.position.specs.Place.{given, lineNumber, columnNumber, isNone, onLine}
 use Rattle.position.specs.declared.Position.{Position}
-use Rattle.position.specs.declared.Placed.{Placed}
-use Rattle.position.specs.declared.Placed.the-variants.{At, Refused}
+use Rattle.coordinates.specs.declared.Placed.{Placed}
+use Rattle.coordinates.specs.declared.Placed.the-variants.{At, Refused}
 
 -- a sum passes 65,535 before its minus one
 unfoldable pub passes : ℕ → ℕ → Bool
@@ -22,8 +22,8 @@ sumOn line c d =
 -- the sum of two places on lines
 unfoldable pub sumLines : Position → Position → Placed
 sumLines p q =
-    pick (passes (p .line) (q .line)) (Refused 15)
-    (sumOn (p .line + q .line - 1) (p .pos) (q .pos))
+    pick (passes (lineNumber p) (lineNumber q)) (Refused 15)
+    (sumOn (lineNumber p + lineNumber q - 1) (columnNumber p) (columnNumber q))
 
 -- the sum: NONE on the right gives the left; else 15 where a side is on line 0, or where a sum passes
 unfoldable pub sumOf : Position → Position → Placed

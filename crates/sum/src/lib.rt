@@ -1,24 +1,22 @@
 // The sum of two places: the Rust's Add for Position.
-ghost use Prim.Native.Nat.{_≤_};
 ghost use mathlib.Core.Path.{_≡_};
 ghost use mathlib.Core.Bool.{true};
 ghost use Rattle.position.specs.Place.{onLine};
 ghost use Rattle.sum.specs.Sum.{sumOn, sumLines, sumOf};
-use position::Placed;
+use coordinates::Placed;
 use position::Position;
 
 // The sum of two columns, on the line that the sum has.
-fn sum_on(line: usize, c: usize, d: usize) -> Placed
-    requires { ⌜ (line ≤ 65535) × (c ≤ 65535) × (d ≤ 65535) ⌝ }
+fn sum_on(line: u16, c: u16, d: u16) -> Placed
     ensures { λ r. ⌜ r ≡ sumOn line c d ⌝ }
 {
     if d == 0 {
-        return Placed::At(Position::given(line as u16, c as u16));
+        return Placed::At(Position::given(line, c));
     }
-    if 65535 < c + d {
+    if 65535 - d < c {
         return Placed::Refused(15);
     }
-    Placed::At(Position::given(line as u16, (c + d - 1) as u16))
+    Placed::At(Position::given(line, c + d - 1))
 }
 
 // The sum of two places on lines.
@@ -26,15 +24,12 @@ fn sum_lines(p: Position, rhs: Position) -> Placed
     requires { ⌜ onLine p ≡ true ⌝ }
     ensures { λ r. ⌜ r ≡ sumLines p rhs ⌝ }
 {
-    let line = p.line().unwrap_or(0) + rhs.line().unwrap_or(0);
-    if 65535 < line {
+    let line = p.line_number();
+    let more = rhs.line_number();
+    if 65535 - more < line {
         return Placed::Refused(15);
     }
-    sum_on(
-        line - 1,
-        p.position().unwrap_or(0),
-        rhs.position().unwrap_or(0),
-    )
+    sum_on(line + more - 1, p.column_number(), rhs.column_number())
 }
 
 // It is refused where the Rust would panic, wrap, or answer a place that is none.

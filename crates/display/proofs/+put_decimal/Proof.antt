@@ -4,8 +4,7 @@ use native.Mathlib.Omega.{arith}
 use borrow.Author.Needs.{needs}
 use borrow.Fn.Kinds.{In}
 use borrow.Fn.PlainCycle.{Measures, is, falls, and}
-use Rattle.display.proofs.Decimals.{decimal-some, decimal-length}
-use Rattle.display.proofs.Texts.{reached, one-digit, digit-more}
+use Rattle.display.proofs.Texts.{one-digit, digit-room, digit-more}
 use Rattle.display.proofs.put_decimal.Reads as put-decimal
 use Rattle.display.proofs.put_decimal.Kinds as put-decimal-kinds
 use Rattle.display.proofs.+put_decimal.Lts-put_decimal as put-decimal-lts
@@ -35,10 +34,10 @@ pub +put-decimal-spec : {M : Type 1} → statement M
     put-decimal.Post
     (λ c. search needs)
     (λ c. search needs)
-    (λ c κs. omega (arith, decimal-some (c .before .args .n)))
+    (λ c κs. omega arith)
     (λ c. one-digit (c .before .if1 .taken) (c .put-byte .ensures))
-    (λ c κs. (omega (arith, c .before .pre .0), omega (arith, decimal-length (c .before .args .n) (c .if1 .left))))
+    (λ c κs. (omega (arith, c .before .pre .0), omega arith))
     (λ c. search needs)
     (λ c. search needs)
-    (λ c κs. omega (arith, reached (c .put-decimal .ensures), decimal-length (c .before .before .args .n) (c .before .if1 .left)))
-    (λ c. digit-more (c .before .before .if1 .left) (c .before .put-decimal .ensures) (c .put-byte2 .ensures))
+    (λ c κs. digit-room (omega arith) (c .before .if1 .left) (c .put-decimal .ensures) (omega arith))
+    (λ c. digit-more (omega arith) (c .before .before .if1 .left) (c .before .put-decimal .ensures) (c .put-byte2 .ensures))

@@ -2,7 +2,7 @@
 use native.Mathlib.Omega.{arith}
 use mathlib.Core.Path.{ap, _∙_}
 use borrow.Author.Needs.{needs}
-use Rattle.position.specs.declared.Placed.the-variants.{At}
+use Rattle.coordinates.specs.declared.Placed.the-variants.{At}
 use Rattle.sum.proofs.Sums.{no-column, columns-pass, columns-fit}
 use Rattle.sum.proofs.sum_on.Statement.{statement}
 use Rattle.sum.proofs.sum_on.Tie as tie
@@ -11,15 +11,11 @@ pub sum-on-spec : {M : Type 1} → statement M
 sum-on-spec =
     tie.close
     (tie.spec
-    (λ c. search needs)
-    (λ c. search needs)
     (λ c κs. search needs)
     (λ c. ap At (c .given .ensures) ∙ no-column _ _ _ (c .before .if1 .taken))
     (λ c. search needs)
-    (λ c. columns-pass _ _ _ (c .before .if1 .left) (c .if2 .taken))
-    (λ c. search needs)
-    (λ c. search needs)
+    (λ c. columns-pass _ _ _ (c .before .if1 .left) (omega arith))
     (λ c. search needs)
     (λ c. search needs)
     (λ c κs. search needs)
-    (λ c. ap At (c .given2 .ensures) ∙ columns-fit _ _ _ (c .before .before .if1 .left) (c .before .if2 .left)))
+    (λ c. ap At (c .given2 .ensures) ∙ columns-fit _ _ _ (c .before .before .if1 .left) (omega arith)))

@@ -8,5 +8,5 @@ pub is-none-spec : {M : Type 1} → statement M
 unfolding isNone
 is-none-spec = tie.close
     (tie.spec
-    (λ c. rw (ne-eqb _ _ (c .if1 .taken)))
-    (λ c. rw (eq-eqb _ _ (c .before .if1 .left))))
+    (λ c. rw (eq-eqb _ _ (c .before .if1 .taken)))
+    (λ c. rw (ne-eqb _ _ (c .if1 .left))))

@@ -1,6 +1,8 @@
--- The column is one down.
+-- One less than column 0 is column 0.
 use borrow.Author.Needs.{needs}
-use Rattle.position.specs.Place.{rewound}
+use native.Mathlib.Omega.{arith}
+use mathlib.Core.Path.{ap}
+use Rattle.position.specs.Place.{place, rewound}
 use Rattle.position.proofs.Position.rewound.Statement.{statement}
 use Rattle.position.proofs.Position.rewound.Tie as tie
 
@@ -8,5 +10,6 @@ pub rewound-spec : {M : Type 1} → statement M
 unfolding rewound
 rewound-spec = tie.close
     (tie.spec
-    (λ c κs. search needs)
-    (λ c. rw (c .down .ensures)))
+    (λ c. ap (place _) (omega arith))
+    (λ c. omega arith)
+    (λ c. search needs))
