@@ -87,18 +87,10 @@ module _ (t : List ℕ) (s : Cursor) where
   unfolding eatNextOf
   ate-ended q = ended-on t (s .at) (advanced (s .place)) (lookAt t (s .at)) refl q
 
--- to eat a character is to take it and to advance
-module _ (t : List ℕ) (s : Cursor) where
-  pub got-ate : {c : ℕ} {next : Cursor} → getNextOf t s ≡ taken.Char c next → eatNextOf t s ≡ taken.Char c (cursor (next .at) (advanced (next .place)))
-  unfolding getNextOf eatNextOf
-  got-ate q = go (lookAt t (s .at)) q
-    where
-      go : {c : ℕ} {next : Cursor} (x : Look) → takenOn (s .at) (s .place) x ≡ taken.Char c next → takenOn (s .at) (advanced (s .place)) x ≡ taken.Char c (cursor (next .at) (advanced (next .place)))
-      go (look.Char d w) e = rw (char-is e, cursor-is e)
-      go look.End e = no-char e
-
-  pub none-ate : getNextOf t s ≡ taken.End → eatNextOf t s ≡ taken.End
-  none-ate q = ate-none t s (got-ended t s q)
+-- to eat a character is to take it at the place one column on
+pub ate-got : (t : List ℕ) (s : Cursor) {p : Position} → p ≡ advanced (s .place) → getNextOf t (cursor (s .at) p) ≡ eatNextOf t s
+unfolding getNextOf eatNextOf
+ate-got t s e = rw e
 
 -- a cursor behind a character stands further on, within the text
 module _ (t : List ℕ) (at : ℕ) (p : Position) {c : ℕ} {next : Cursor} (k : Took t at p c next) where

@@ -52,11 +52,8 @@ impl Cursor {
     pub fn eat_next_and_advance(self, text: &[u8]) -> Taken
         ensures { λ r. ⌜ r ≡ eatNextOf (now (text .entry)) self ⌝ }
     {
-        let Taken::Char(c, next) = self.get_next(text) else {
-            return Taken::End;
-        };
-        let at = next.at;
-        let place = next.place.advanced();
-        Taken::Char(c, Cursor { at, place })
+        let at = self.at;
+        let place = self.place.advanced();
+        Cursor { at, place }.get_next(text)
     }
 }

@@ -12,8 +12,8 @@ pub fn door(text: &[u8], at: usize) -> u8
     if 16_777_216 < text.len() {
         return 2;
     }
-    if utf8::check(text) {
-        if utf8::is_boundary(text, at) {
+    if formed::check(text) {
+        if formed::is_boundary(text, at) {
             return 0;
         }
         return 3;

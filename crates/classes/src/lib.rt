@@ -1,63 +1,19 @@
 // Classes of characters: White_Space, and the ASCII classes that the Rust asks for.
 ghost use mathlib.Core.Path.{_≡_};
 ghost use Rattle.classes.specs.Class.{isNumericDigit, isIdFirstAlphabetic, isIdContinue, digitOf};
-ghost use Rattle.classes.specs.White.{isWhite, among, whites};
+ghost use Rattle.classes.specs.White.{isWhite};
 ghost use Rattle.utf8.specs.Table.{_‥_, within};
 
-// The code points from the first to the last.
-struct Entry(u32, u32);
-
-// White_Space as the property file prints it.
-const WHITE_SPACE: [Entry; 11] = [
-    Entry(0x0009, 0x000D),
-    Entry(0x0020, 0x0020),
-    Entry(0x0085, 0x0085),
-    Entry(0x00A0, 0x00A0),
-    Entry(0x1680, 0x1680),
-    Entry(0x2000, 0x200A),
-    Entry(0x2028, 0x2028),
-    Entry(0x2029, 0x2029),
-    Entry(0x202F, 0x202F),
-    Entry(0x205F, 0x205F),
-    Entry(0x3000, 0x3000),
-];
-
-// Whether a character is white. Nearly all characters of a script are ASCII, so these are told
-// apart before the table is asked.
+// White_Space: the single code points of the property file, and its ranges.
 pub fn is_white(c: u32) -> bool
     ensures { λ r. ⌜ r ≡ isWhite c ⌝ }
 {
-    if c < 0x09 {
-        return false;
+    match c {
+        0x0020 | 0x0085 | 0x00A0 | 0x1680 | 0x2028 | 0x2029 | 0x202F | 0x205F | 0x3000 => true,
+        0x0009..=0x000D => true,
+        0x2000..=0x200A => true,
+        _ => false,
     }
-    if c < 0x0E {
-        return true;
-    }
-    if c < 0x20 {
-        return false;
-    }
-    if c < 0x21 {
-        return true;
-    }
-    if c < 0x85 {
-        return false;
-    }
-    is_listed(c)
-}
-
-fn is_listed(c: u32) -> bool
-    ensures { λ r. ⌜ r ≡ isWhite c ⌝ }
-{
-    let table = WHITE_SPACE;
-    let mut i = 0;
-    while i < 11 {
-        let entry = table[i];
-        if is_within(entry.0, entry.1, c) {
-            return true;
-        }
-        i += 1;
-    }
-    false
 }
 
 fn is_within(low: u32, high: u32, c: u32) -> bool
@@ -99,10 +55,7 @@ pub fn is_id_continue(c: u32) -> bool
     if is_numeric_digit(c) {
         return true;
     }
-    if c == 0x5F {
-        return true;
-    }
-    false
+    c == 0x5F
 }
 
 // The Rust's `to_digit(16)`: the value of a hex digit, and 16 for what is none.

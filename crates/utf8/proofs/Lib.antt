@@ -4,8 +4,7 @@ pub mod Digits
 pub mod Rows
 pub mod Decodes
 pub mod Finds
-pub mod Leads
-pub mod Goes
+pub mod Bits
 pub mod Laws
 pub mod Edges
 pub mod Unicode

@@ -1,4 +1,4 @@
 pub mod Table
 pub mod Encode
-pub mod Lead
+pub mod Bits
 pub mod Unicode

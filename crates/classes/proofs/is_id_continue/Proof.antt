@@ -1,7 +1,6 @@
 -- The three classes of the definition, in its order.
 use mathlib.Core.Path.{sym, _∙_}
 use borrow.Author.Needs.{needs}
-use borrow.Author.Tests.{eq-eqb, ne-eqb}
 use Rattle.classes.specs.Class.{isIdContinue}
 use Rattle.classes.proofs.is_id_continue.Statement.{statement}
 use Rattle.classes.proofs.is_id_continue.Tie as tie
@@ -19,16 +18,8 @@ returns-2 c =
 returns-3 : tie.Need-returns-3
 unfolding isIdContinue
 returns-3 c =
-    let digit = c .before in
-    let letter = digit .before .before in
-    rw (sym (letter .before .is-id-first-alphabetic .ensures) ∙ letter .if1 .left, sym (digit .before .is-numeric-digit .ensures) ∙ digit .if2 .left, eq-eqb _ _ (c .if3 .taken))
-
-returns-4 : tie.Need-returns-4
-unfolding isIdContinue
-returns-4 c =
-    let digit = c .before in
-    let letter = digit .before .before in
-    rw (sym (letter .before .is-id-first-alphabetic .ensures) ∙ letter .if1 .left, sym (digit .before .is-numeric-digit .ensures) ∙ digit .if2 .left, ne-eqb _ _ (c .if3 .left))
+    let letter = c .before .before in
+    rw (sym (letter .before .is-id-first-alphabetic .ensures) ∙ letter .if1 .left, sym (c .before .is-numeric-digit .ensures) ∙ c .if2 .left)
 
 pub is-id-continue-spec : {M : Type 1} → statement M
 is-id-continue-spec =
@@ -38,5 +29,4 @@ is-id-continue-spec =
     returns
     (λ c κs. search needs)
     returns-2
-    returns-3
-    returns-4)
+    returns-3)

@@ -1,40 +1,39 @@
--- Between two thresholds no entry begins or ends, so the lower one decides.
-use Prim.Native.Nat.{zero-le}
-use mathlib.Core.Path.{_≡_, refl, _∙_}
-use borrow.Author.Needs.{needs}
-use Rattle.classes.specs.White.{isWhite}
-use Rattle.classes.proofs.Whites.{steadily}
+-- A single code point is found by the arm that has it; any other is white if it lies in a range.
+use native.Mathlib.Omega.{arith}
+use Rattle.classes.proofs.Whites.{control, space, separator, single, none}
 use Rattle.classes.proofs.is_white.Statement.{statement}
 use Rattle.classes.proofs.is_white.Tie as tie
 
-returns : tie.Need-returns
-unfolding isWhite
-returns c = steadily _ 0x00 0x09 zero-le (c .if1 .taken) tt
-
-returns-2 : tie.Need-returns-2
-unfolding isWhite
-returns-2 c = steadily _ 0x09 0x0E (c .before .if1 .left) (c .if2 .taken) tt
-
+-- before the ranges, between them and behind them
 returns-3 : tie.Need-returns-3
-unfolding isWhite
-returns-3 c = steadily _ 0x0E 0x20 (c .before .if2 .left) (c .if3 .taken) tt
+returns-3 c = none _ (c .before .match .rest .1) (λ h g. omega arith) (λ h g. omega arith) (λ h g. omega arith)
 
 returns-4 : tie.Need-returns-4
-unfolding isWhite
-returns-4 c = steadily _ 0x20 0x21 (c .before .if3 .left) (c .if4 .taken) tt
+returns-4 c =
+    let rest = c .before .before .before in
+    none _ (rest .match .rest .1) (λ h g. omega arith) (λ h g. omega arith) (λ h g. omega arith)
 
 returns-5 : tie.Need-returns-5
-unfolding isWhite
-returns-5 c = steadily _ 0x21 0x85 (c .before .if4 .left) (c .if5 .taken) tt
+returns-5 c =
+    let range = c .before .before in
+    let rest = range .before .before .before in
+    none _ (rest .match .rest .1) (λ h g. omega arith) (λ h g. omega arith) (λ h g. omega arith)
+
+returns-6 : tie.Need-returns-6
+returns-6 c =
+    let range = c .before .before .before in
+    let rest = range .before .before .before in
+    none _ (rest .match .rest .1) (λ h g. omega arith) (λ h g. omega arith) (λ h g. omega arith)
 
 pub is-white-spec : {M : Type 1} → statement M
 is-white-spec =
     tie.close
     (tie.spec
-    returns
-    returns-2
+    (λ c. control (omega arith) (omega arith))
+    (λ c. space (omega arith) (omega arith))
     returns-3
     returns-4
     returns-5
-    (λ c κs. search needs)
-    (λ c. c .is-listed .ensures))
+    returns-6
+    (λ c. single _ (c .match .keys1))
+    (λ c. separator (omega arith) (omega arith)))

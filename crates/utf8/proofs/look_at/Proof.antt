@@ -3,7 +3,7 @@ use native.Mathlib.Omega.{arith}
 use mathlib.Core.Path.{_∙_}
 use borrow.Author.Needs.{needs}
 use Rattle.utf8.proofs.Laws.{look-past}
-use Rattle.utf8.proofs.Leads.{look-ascii, look-lead}
+use Rattle.utf8.proofs.Bits.{look-ascii, look-here}
 use Rattle.utf8.proofs.look_at.Statement.{statement}
 use Rattle.utf8.proofs.look_at.Tie as tie
 
@@ -14,6 +14,6 @@ look-at-spec =
     (λ c. rw (look-past _ _ (c .if1 .taken)))
     (λ c. search needs)
     (λ c. omega (arith, c .shared-slice-known2 .given (c .before .before .before .args .at)))
-    (λ c. look-ascii _ _ _ (omega arith) (omega arith) (omega arith))
+    (λ c. look-ascii _ _ (omega arith) _ (omega arith) (omega arith))
     (λ c κs. search needs)
-    (λ c. c .longer .ensures ∙ look-lead _ _ (omega arith) (omega arith)))
+    (λ c. c .longer .ensures ∙ look-here _ _ (omega arith)))

@@ -2,9 +2,9 @@
 use native.Mathlib.Omega.{arith}
 use mathlib.Core.Path.{sym}
 use borrow.Author.Needs.{needs}
 use Rattle.utf8.proofs.Edges.{boundary-low, boundary-high, boundary-past}
-use Rattle.utf8.proofs.is_boundary.Statement.{statement}
-use Rattle.utf8.proofs.is_boundary.Tie as tie
+use Rattle.formed.proofs.is_boundary.Statement.{statement}
+use Rattle.formed.proofs.is_boundary.Tie as tie
 
 pub is-boundary-spec : {M : Type 1} → statement M
 is-boundary-spec =

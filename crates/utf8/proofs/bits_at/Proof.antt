@@ -3,8 +3,8 @@ use native.Mathlib.Omega.{arith}
 use borrow.Author.Needs.{needs}
 use borrow.Author.Tests.{le-leb, lt-leb}
 use Rattle.basis.proofs.Bytes.{here, past}
-use Rattle.utf8.proofs.next_in.Statement.{statement}
-use Rattle.utf8.proofs.next_in.Tie as tie
+use Rattle.utf8.proofs.bits_at.Statement.{statement}
+use Rattle.utf8.proofs.bits_at.Tie as tie
 
 returns : tie.Need-returns
 returns c =
@@ -19,8 +19,8 @@ returns-2 c =
 returns-3 : tie.Need-returns-3
 returns-3 c = rw (here _ _ (c .before .before .if1 .taken)) (simp (lt-leb _ _ (c .if2 .left)))
 
-pub next-in-spec : {M : Type 1} → statement M
-next-in-spec =
+pub bits-at-spec : {M : Type 1} → statement M
+bits-at-spec =
     tie.close
     (tie.spec
     (λ c. search needs)

@@ -5,11 +5,11 @@ use mathlib.Core.List.{List}
 use mathlib.Core.Path.{_≡_, sym, _∙_}
 use lib.ListN.{length, drop}
 use borrow.Author.Needs.{needs}
 use Rattle.utf8.specs.Table.{well, lookAt}
 use Rattle.utf8.specs.declared.Look.the-variants.{Char}
 use Rattle.utf8.proofs.Laws.{well-char, well-end, well-done, at-width}
-use Rattle.utf8.proofs.check.Statement.{statement}
-use Rattle.utf8.proofs.check.Tie as tie
+use Rattle.formed.proofs.check.Statement.{statement}
+use Rattle.formed.proofs.check.Tie as tie
 
 abbrev Inv-loop : tie.InvT-loop
 Inv-loop text at₀ at = (at ≤ length text) × (well text ≡ well (drop at text))
