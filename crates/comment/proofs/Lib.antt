@@ -1,5 +1,3 @@
 pub mod Ends
-pub mod Refusals
 pub mod Returns
 pub mod Turns
-pub mod Words

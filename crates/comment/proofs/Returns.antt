@@ -1,6 +1,5 @@
--- The tables of returns in front of the definitions, row by row. Assumes nothing.
+-- The table of returns in front of the definition, row by row. Assumes nothing.
 use Prim.Native.Nat.{ℕ}
-use mathlib.Core.Bool.{true, false}
 use mathlib.Core.List.{List, [], _∷_}
 use mathlib.Core.Path.{_≡_, refl}
 use Rattle.basis.specs.Words.{word}
@@ -11,7 +10,6 @@ use Rattle.chars.specs.Door.{doorOf}
 use Rattle.chars.specs.Scan.{run, runAt, widths}
 use Rattle.fault.specs.Faults.{fault}
 use Rattle.comment.specs.Block.{comment, turn, commentOf, refusesOf, scanBlockCommentOf}
-use Rattle.comment.specs.Doc.{begins, beginsOnly, isDocComment}
 use Rattle.comment.specs.declared.Commented.{Commented}
 use Rattle.comment.specs.declared.Commented.the-variants.{Done, Refused}
 
@@ -45,15 +43,3 @@ pub refused :
     × (scans 65536 [] ≡ Refused (fault 3 (given 1 1)))
 unfolding given onLine look charsFrom chars charsAt wellFrom well edge doorOf run runAt refusesOf scanBlockCommentOf
 refused = (refl, refl, refl, refl, refl, refl)
-
-pub documents :
-    (isDocComment (word "///") ≡ true)
-    × (isDocComment (word "///a") ≡ true)
-    × (isDocComment (word "////") ≡ false)
-    × (isDocComment (word "//") ≡ false)
-    × (isDocComment (word "/**") ≡ true)
-    × (isDocComment (word "/**/") ≡ true)
-    × (isDocComment (word "/***") ≡ false)
-    × (isDocComment (word "/*a") ≡ false)
-unfolding word begins beginsOnly isDocComment
-documents = (refl, refl, refl, refl, refl, refl, refl, refl)

@@ -1,3 +1,2 @@
 pub mod Block
-pub mod Doc
 pub mod Step

@@ -1,15 +1,12 @@
-// Block comments, which nest, and doc comments: the Rust's `scan_block_comment` and `is_doc_comment`.
+// Block comments, which nest: the scan of the Rust's `scan_block_comment`. The entry is `block_comment`.
 ghost use mathlib.Core.Path.{_≡_};
 ghost use Prim.Native.Nat.{_≤_};
 ghost use lib.ListN.{length};
-ghost use Rattle.comment.specs.Block.{commentOf, refusesOf, scanBlockCommentOf};
-ghost use Rattle.comment.specs.Doc.{begins, beginsOnly, isDocComment};
+ghost use Rattle.comment.specs.Block.{commentOf};
 ghost use Rattle.comment.specs.Step.{eatIfOf, moveOf, asStep, Fine, Goes};
 use chars::cursor::Cursor;
 use chars::cursor::Taken;
 use fault::Fault;
-use fault::Part;
-use position::Position;
 
 const SLASH: u32 = 0x2F;
 
@@ -102,78 +99,4 @@ pub fn scan(text: &[u8], start: Cursor, level: usize) -> Comment
             }
         }
     }
-}
-
-// What the arguments of a scan refuse, by number; 0 for nothing.
-fn refuses(text: &[u8], at: usize, place: Position, level: usize) -> u8
-    ensures { λ r. ⌜ r ≡ refusesOf (now (text .entry)) at place level ⌝ }
-{
-    let number = chars::door(text, at);
-    if number != 0 {
-        return number;
-    }
-    if place.is_on_line() {
-        if 1 <= level {
-            if level <= 65535 {
-                return 0;
-            }
-            return Fault::BAD_ARGUMENT;
-        }
-        return Fault::BAD_ARGUMENT;
-    }
-    Fault::BAD_ARGUMENT
-}
-
-// The scan of a comment from behind its opener, or from anywhere in it: `level` comments are open.
-pub fn scan_block_comment(text: &[u8], at: usize, place: Position, level: usize) -> Commented
-    ensures { λ r. ⌜ r ≡ scanBlockCommentOf (now (text .entry)) at place level ⌝ }
-{
-    let number = refuses(text, at, place, level);
-    if number != 0 {
-        return Commented::Refused(Fault {
-            number,
-            place,
-            part: Part::NONE,
-        });
-    }
-    Commented::Done(scan(text, Cursor { at, place }, level))
-}
-
-fn starts_with(text: &[u8], word: &[u8]) -> bool
-    ensures { λ r. ⌜ r ≡ begins (now (word .entry)) (now (text .entry)) ⌝ }
-{
-    let mut i = 0;
-    while i < word.len() {
-        if text.len() <= i {
-            return false;
-        }
-        if text[i] != word[i] {
-            return false;
-        }
-        i += 1;
-    }
-    true
-}
-
-// Whether a comment begins with one word, and not with a longer one.
-fn starts_only_with(comment: &[u8], word: &[u8], longer: &[u8]) -> bool
-    ensures { λ r. ⌜ r ≡ beginsOnly (now (word .entry)) (now (longer .entry)) (now (comment .entry)) ⌝ }
-{
-    if starts_with(comment, word) {
-        if starts_with(comment, longer) {
-            return false;
-        }
-        return true;
-    }
-    false
-}
-
-// Whether a comment is a doc comment. `/**/` is one, as in the Rust.
-pub fn is_doc_comment(comment: &[u8]) -> bool
-    ensures { λ r. ⌜ r ≡ isDocComment (now (comment .entry)) ⌝ }
-{
-    if starts_only_with(comment, b"///", b"////") {
-        return true;
-    }
-    starts_only_with(comment, b"/**", b"/***")
 }

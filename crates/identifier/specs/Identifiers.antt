@@ -32,7 +32,7 @@ use Rattle.token.specs.declared.Lookup.{Lookup}
 use Rattle.token.specs.declared.Lookup.the-variants.{Some, None}
 use Rattle.book.specs.Book.{checkOf}
 use Rattle.reserved.specs.Lookup.{reservedOf}
-use Rattle.identifier.specs.Valid.{isValidIdentifier}
+use Rattle.valid.specs.Valid.{isValidIdentifier}
 use Rattle.identifier.specs.declared.Word.{Word}
 use Rattle.identifier.specs.declared.Class.{Class}
 use Rattle.identifier.specs.declared.Class.the-variants.{Is, Malformed}

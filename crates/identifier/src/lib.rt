@@ -1,18 +1,15 @@
-// Identifiers: the Rust's `parse_identifier_token` and `is_valid_identifier`.
+// Identifiers: the scan of the Rust's `parse_identifier_token`, from a cursor. The entry is `identifier_token`.
 ghost use mathlib.Core.Path.{_≡_};
-ghost use mathlib.Core.Bool.{true, false};
-ghost use Prim.Native.Nat.{_+_, _≤_};
-ghost use lib.ListN.{length, take, drop};
-ghost use Rattle.utf8.specs.Table.{lookAt};
+ghost use mathlib.Core.Bool.{true};
+ghost use Prim.Native.Nat.{_≤_};
+ghost use lib.ListN.{length};
 ghost use Rattle.token.specs.Table.{table};
 ghost use Rattle.book.specs.Book.{good};
-ghost use Rattle.identifier.specs.Valid.{afterUnderscores, goesOn, isValidIdentifier};
-ghost use Rattle.identifier.specs.Identifiers.{endFrom, kindOf, listed, classOf, identifyOf, argumentOf, identifierOf};
+ghost use Rattle.identifier.specs.Identifiers.{endFrom, kindOf, listed, classOf, identifyOf};
 use chars::cursor::Cursor;
 use chars::cursor::Taken;
 use fault::Fault;
 use fault::Part;
-use position::Position;
 use token::Lookup;
 
 // What stands at a place: its kind, its token, and the cursor behind it.
@@ -42,50 +39,6 @@ pub enum Identified {
 enum Class {
     Is(u8, u8),
     Malformed,
-}
-
-// How many underscores a text begins with.
-fn underscores(name: &[u8]) -> usize
-    ensures { λ r. ⌜ (drop r (now (name .entry)) ≡ afterUnderscores (now (name .entry))) × (r ≤ length (now (name .entry))) ⌝ }
-{
-    let mut i = 0;
-    while i < name.len() {
-        if name[i] != 0x5F {
-            return i;
-        }
-        i += 1;
-    }
-    i
-}
-
-// Whether every byte from an index on goes on an identifier.
-fn goes_on(name: &[u8], from: usize) -> bool
-    requires { ⌜ from ≤ length (now name) ⌝ }
-    ensures { λ r. ⌜ r ≡ goesOn (drop from (now (name .entry))) ⌝ }
-{
-    let mut i = from;
-    while i < name.len() {
-        if classes::is_id_continue(name[i] as u32) {
-            i += 1;
-        } else {
-            return false;
-        }
-    }
-    true
-}
-
-// Whether a text is an identifier: underscores, then a letter, then anything allowed.
-pub fn is_valid_identifier(name: &[u8]) -> bool
-    ensures { λ r. ⌜ r ≡ isValidIdentifier (now (name .entry)) ⌝ }
-{
-    let i = underscores(name);
-    if name.len() <= i {
-        return false;
-    }
-    if classes::is_id_first_alphabetic(name[i] as u32) {
-        return goes_on(name, i + 1);
-    }
-    false
 }
 
 // Behind every character that goes on an identifier.
@@ -127,7 +80,7 @@ fn unlisted(book: &[u8], word: &[u8]) -> Class
     if reserved::lookup_in(book, word).found {
         return Class::Is(Word::RESERVED, token::tokens::RESERVED);
     }
-    if is_valid_identifier(word) {
+    if valid::is_valid_identifier(word) {
         return Class::Is(Word::NAME, token::tokens::IDENTIFIER);
     }
     Class::Malformed
@@ -149,7 +102,6 @@ pub fn identify(words: &[u8], book: &[u8], text: &[u8], start: Cursor) -> Identi
     requires { ⌜ (now words ≡ table) × (good (now book) ≡ true) ⌝ }
     ensures { λ r. ⌜ r ≡ identifyOf (now (text .entry)) (now (book .entry)) start ⌝ }
 {
-    let at = start.at;
     let place = start.place;
     let Taken::Char(_, first) = start.get_next(text) else {
         return Identified::Refused(
@@ -162,57 +114,21 @@ pub fn identify(words: &[u8], book: &[u8], text: &[u8], start: Cursor) -> Identi
         );
     };
     let end = end_from(text, first);
+    let at = start.at;
     let to = end.at;
-    let class = class_of(words, book, &text[at..to]);
-    match class {
-        Class::Is(kind, token) => Identified::Found(Word {
-            kind,
-            token,
-            cursor: end,
-        }),
-        Class::Malformed => Identified::Refused(
+    let Class::Is(kind, token) = class_of(words, book, &text[at..to]) else {
+        return Identified::Refused(
             Fault {
                 number: Fault::MALFORMED_IDENTIFIER,
                 place,
                 part: Part { at, len: to - at },
             },
             end,
-        ),
-    }
-}
-
-// What the arguments refuse: 2, 1, 3, 14 in that order; else 0.
-fn argument(text: &[u8], at: usize, place: Position, book: &[u8]) -> u8
-    ensures { λ r. ⌜ r ≡ argumentOf (now (text .entry)) at place (now (book .entry)) ⌝ }
-{
-    let number = chars::door(text, at);
-    if number != 0 {
-        return number;
-    }
-    if place.is_on_line() {
-        if text.len() <= at {
-            return 3;
-        }
-        return book::check(book);
-    }
-    3
-}
-
-// The identifier that begins at an offset with whichever character stands there, whose place is given.
-pub fn parse_identifier_token(text: &[u8], at: usize, place: Position, book: &[u8]) -> Identified
-    ensures { λ r. ⌜ r ≡ identifierOf (now (text .entry)) at place (now (book .entry)) ⌝ }
-{
-    let number = argument(text, at, place, book);
-    if number == 0 {
-        let words = token::words();
-        return identify(&words, book, text, Cursor { at, place });
-    }
-    Identified::Refused(
-        Fault {
-            number,
-            place,
-            part: Part::NONE,
-        },
-        Cursor { at, place },
-    )
+        );
+    };
+    Identified::Found(Word {
+        kind,
+        token,
+        cursor: end,
+    })
 }

@@ -40,9 +40,9 @@ pub fn lookup_in(words: &[u8], text: &[u8]) -> Lookup
     if text.len() == 0 {
         return Lookup::None;
     }
-    let mut k = token::first_place(words, text[0]);
+    let mut k = word_table::first_place(words, text[0]);
     while k < 153 {
-        let place = token::place_at(words, k);
+        let place = word_table::place_at(words, k);
         let from = place.from;
         let to = place.to;
         if is_word(text, &words[from..to]) {

@@ -15,11 +15,12 @@ use Rattle.order.specs.Order.{compared, isEqual, same}
 use Rattle.contents.specs.Contents.{Entry, count, bodies, wordAt, wordsFrom, words, enough}
 use Rattle.book.specs.Book.{few, runsOn, allFit, rising, good}
 use Rattle.reserved.specs.Lookup.{Stands, Hit, hit, none, firstOf, answerOf, answered, notFound, reservedOf}
-use Rattle.reserved.specs.Halving.{middle, narrowed, soughtIn, soughtOf, entryOf, halvedOf}
+use Rattle.seek.specs.Halving.{middle, narrowed, soughtIn, soughtOf}
+use Rattle.reserved.specs.Halving.{entryOf, halvedOf}
 use Rattle.order.specs.declared.Order.{Order}
 use Rattle.order.specs.declared.Order.the-variants.{Less, Equal, Greater}
-use Rattle.reserved.specs.declared.Found.{Found}
-use Rattle.reserved.specs.declared.Found.the-variants.{At, Nothing}
+use Rattle.seek.specs.declared.Found.{Found}
+use Rattle.seek.specs.declared.Found.the-variants.{At, Nothing}
 use Rattle.order.proofs.Orders.{not-less-greater, not-less-equal, not-greater-equal, equal-self, equal-is, less-less}
 use Rattle.reserved.proofs.Sorted.{text, sorted}
 

@@ -1,4 +1,3 @@
-pub mod Sought
 pub mod Sorted
 pub mod Holds
 pub mod Places

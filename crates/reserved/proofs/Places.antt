@@ -16,11 +16,12 @@ use Rattle.order.specs.Order.{compared}
 use Rattle.contents.specs.Contents.{count, bodies, startAt, sizeAt, wordAt, wordsFrom, words, enough}
 use Rattle.book.specs.Book.{runsOn, good, checkOf}
 use Rattle.reserved.specs.Lookup.{inHouse, inOffice, answered, answerOf, notFound, reservedOf, eitherBook, heldOf, partOf, placeOf, foundPart, foundPlace}
-use Rattle.reserved.specs.Halving.{middle, narrowed, soughtIn, soughtOf, entryOf, halvedOf}
+use Rattle.seek.specs.Halving.{middle, narrowed, soughtIn, soughtOf}
+use Rattle.reserved.specs.Halving.{entryOf, halvedOf}
 use Rattle.order.specs.declared.Order.{Order}
 use Rattle.order.specs.declared.Order.the-variants.{Less, Equal, Greater}
-use Rattle.reserved.specs.declared.Found.{Found}
-use Rattle.reserved.specs.declared.Found.the-variants.{At, Nothing}
+use Rattle.seek.specs.declared.Found.{Found}
+use Rattle.seek.specs.declared.Found.the-variants.{At, Nothing}
 use Rattle.reserved.specs.declared.Reserved.{Reserved}
 use Rattle.book.proofs.Checks.{check-good, check-bad, check-is}
 use Rattle.reserved.proofs.Holds.{good-runs, halved-first, halved}

@@ -30,7 +30,7 @@ fn standing_at(words: &[u8], k: usize, text: &[u8]) -> Longest
     requires { ⌜ (now words ≡ table) × (k < 153) × (isSymbol (entryAt k .text) ≡ true) ⌝ }
     ensures { λ r. ⌜ r ≡ standing (now (text .entry)) (entryAt k) ⌝ }
 {
-    let place = token::place_at(words, k);
+    let place = word_table::place_at(words, k);
     let from = place.from;
     let to = place.to;
     let word = &words[from..to];
@@ -77,10 +77,10 @@ pub fn longest_in(words: &[u8], text: &[u8]) -> Longest
         return Longest::Nothing;
     }
     let mut best = Longest::Nothing;
-    let mut k = token::first_place(words, first);
+    let mut k = word_table::first_place(words, first);
     while k < 153 {
         best = longer_of(best, standing_at(words, k, text));
-        k = token::place_at(words, k).next;
+        k = word_table::place_at(words, k).next;
     }
     best
 }

@@ -13,7 +13,7 @@ fn text_of<'a>(words: &'a [u8], token: u8) -> &'a [u8]
 {
     let mut k = 0;
     while k < 153 {
-        let place = token::place_at(words, k);
+        let place = word_table::place_at(words, k);
         if place.token == token {
             let from = place.from;
             let to = place.to;

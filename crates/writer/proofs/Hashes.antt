@@ -4,7 +4,7 @@ use native.Mathlib.Omega.{arith}
 use native.Mathlib.Numerals.{add-one}
 use mathlib.Core.Bool.{Bool, true, false}
 use mathlib.Core.List.{List, [], _∷_}
-use mathlib.Core.Path.{_≡_, refl, sym, subst}
+use mathlib.Core.Path.{_≡_, refl, sym, subst, _∙_}
 use lib.Dec.{eqb, eqb·suc-zero}
 use lib.ListN.{length, drop, getD}
 use borrow.Author.Tests.{eqb-true}
@@ -35,20 +35,38 @@ unfoldable pub largest : ℕ → ℕ → List ℕ → ℕ
 largest best held [] = best
 largest best held (c ∷ cs) = largest (max best (nextHeld held c)) (nextHeld held c) cs
 
+-- the largest of a few numbers
+module _ (best : ℕ) where
+  not-zero : max best 0 ≡ best
+  not-zero = omega arith
+
+  not-one : 0 < best → max best 1 ≡ best
+  not-one z = omega arith
+
+  module _ (n a m : ℕ) where
+    begun : n ≤ best → max best (max (1 + a) (suc m)) ≡ max best (max (n + 0) (suc (max a m)))
+    begun h = omega arith
+
+    longer : max (max best (suc n)) (max (suc n + a) (suc m)) ≡ max best (max (n + suc a) (suc m))
+    longer = omega arith
+
+    ended : n ≤ best → max best (max 0 (suc m)) ≡ max best (max (n + 0) (suc m))
+    ended h = omega arith
+
 largest-is : (best held : ℕ) (cs : List ℕ) → held ≤ best → 0 < best → largest best held cs ≡ max best (max (reach held cs) (suc (mostAfterQuote cs)))
 unfolding largest reach mostAfterQuote hashesAhead nextHeld
 largest-is best zero [] h z = omega arith
 largest-is best (suc n) [] h z = omega arith
 largest-is best zero (c ∷ cs) h z =
     byte-cases (λ x. largest best 0 (x ∷ cs) ≡ max best (max (reach 0 (x ∷ cs)) (suc (mostAfterQuote (x ∷ cs))))) c
-    (omega (arith, largest-is (max best 1) 1 cs (omega arith) (omega arith)))
-    (omega (arith, largest-is (max best 0) 0 cs (omega arith) (omega arith)))
-    (λ q r. simp (q, r) (omega (arith, largest-is (max best 0) 0 cs (omega arith) (omega arith))))
+    (rw (not-one best z) (largest-is best 1 cs z z ∙ begun best 0 (hashesAhead cs) (mostAfterQuote cs) h))
+    (rw (not-zero best) (largest-is best 0 cs h z))
+    (λ q r. rw (q, r, not-zero best) (largest-is best 0 cs h z))
 largest-is best (suc n) (c ∷ cs) h z =
     byte-cases (λ x. largest best (suc n) (x ∷ cs) ≡ max best (max (reach (suc n) (x ∷ cs)) (suc (mostAfterQuote (x ∷ cs))))) c
-    (omega (arith, largest-is (max best 1) 1 cs (omega arith) (omega arith)))
-    (simp (eqb·suc-zero, add-one) (omega (arith, largest-is (max best (suc (suc n))) (suc (suc n)) cs (omega arith) (omega arith))))
-    (λ q r. simp (q, r) (omega (arith, largest-is (max best 0) 0 cs (omega arith) (omega arith))))
+    (rw (not-one best z) (largest-is best 1 cs z z ∙ begun best (suc n) (hashesAhead cs) (mostAfterQuote cs) h))
+    (simp (eqb·suc-zero, add-one) (largest-is (max best (suc (suc n))) (suc (suc n)) cs (omega arith) (omega arith) ∙ longer best (suc n) (hashesAhead cs) (mostAfterQuote cs)))
+    (λ q r. rw (q, r, not-zero best) (largest-is best 0 cs (omega arith) z ∙ ended best (suc n) (hashesAhead cs) (mostAfterQuote cs) h))
 
 -- from the start, one turn, and the end
 pub measure-start : (body : List ℕ) → hashesFor body ≡ largest 1 0 body

@@ -19,7 +19,7 @@ pub fn refuses(body: &[u8]) -> u8
     if 16_777_216 < body.len() {
         return Fault::TEXT_TOO_LONG;
     }
-    if utf8::check(body) {
+    if formed::check(body) {
         return 0;
     }
     Fault::NOT_UTF8

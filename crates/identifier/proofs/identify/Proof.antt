@@ -53,17 +53,17 @@ module _ (k : tie.After-end-from) where
 returns-2 : tie.Need-returns-2
 unfolding answered
 returns-2 c =
-    let told = c .before in
-    let call = told .before .before in
+    let call = c .before .before in
     let k = call .before .before in
-    sym (whole k ∙ ap (answered (start k) (end k)) (sym (call .class-of .ensures) ∙ told .class .given .1))
+    sym (whole k ∙ ap (answered (start k) (end k)) (sym (call .class-of .ensures) ∙ c .enum-told2 .given .1))
 
 returns-3 : tie.Need-returns-3
 unfolding answered
 returns-3 c =
-    let call = c .before .before in
+    let told = c .before in
+    let call = told .before .before in
     let k = call .before .before in
-    sym (whole k ∙ ap (answered (start k) (end k)) (sym (call .class-of .ensures) ∙ c .enum-told2 .given .1))
+    sym (whole k ∙ ap (answered (start k) (end k)) (sym (call .class-of .ensures) ∙ told .kind .given .1))
 
 pub identify-spec : {M : Type 1} → statement M
 identify-spec =

@@ -1,0 +1,44 @@
+// Identifiers: the Rust's `parse_identifier_token`, with the refusals of its arguments.
+ghost use mathlib.Core.Path.{_≡_};
+ghost use Rattle.identifier.specs.Identifiers.{argumentOf, identifierOf};
+use chars::cursor::Cursor;
+use fault::Fault;
+use fault::Part;
+use identifier::Identified;
+use position::Position;
+
+// What the arguments refuse: 2, 1, 3, 14 in that order; else 0.
+fn argument(text: &[u8], at: usize, place: Position, book: &[u8]) -> u8
+    ensures { λ r. ⌜ r ≡ argumentOf (now (text .entry)) at place (now (book .entry)) ⌝ }
+{
+    let number = chars::door(text, at);
+    if number != 0 {
+        return number;
+    }
+    if place.is_on_line() {
+        if text.len() <= at {
+            return 3;
+        }
+        return book::check(book);
+    }
+    3
+}
+
+// The identifier that begins at an offset with whichever character stands there, whose place is given.
+pub fn parse_identifier_token(text: &[u8], at: usize, place: Position, book: &[u8]) -> Identified
+    ensures { λ r. ⌜ r ≡ identifierOf (now (text .entry)) at place (now (book .entry)) ⌝ }
+{
+    let number = argument(text, at, place, book);
+    if number == 0 {
+        let words = token::words();
+        return identifier::identify(&words, book, text, Cursor { at, place });
+    }
+    Identified::Refused(
+        Fault {
+            number,
+            place,
+            part: Part::NONE,
+        },
+        Cursor { at, place },
+    )
+}
