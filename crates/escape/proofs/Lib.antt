@@ -1,2 +1,1 @@
-pub mod Reaches
 pub mod Ways

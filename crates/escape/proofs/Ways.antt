@@ -22,7 +22,7 @@ use Rattle.escape.specs.declared.Digits.{Digits}
 use Rattle.escape.specs.declared.Digits.the-variants.{Value, Bad}
 use Rattle.escape.specs.declared.Escaped.{Escaped}
 use Rattle.escape.specs.declared.Escaped.the-variants.{Char, Malformed, Other}
-use Rattle.escape.proofs.Reaches.{Reached, there, and-on, took-reached}
+use Rattle.chars.proofs.Reaches.{Reached, there, and-on, took-reached}
 
 -- the letters
 module _ (c : ℕ) where

@@ -3,6 +3,7 @@ ghost use mathlib.Core.Path.{_≡_};
 ghost use Prim.Native.Nat.{_≤_};
 ghost use lib.ListN.{length};
 ghost use Rattle.literal.specs.Cut.{cut, wrote};
+ghost use Rattle.literal.specs.declared.Scanned.the-variants.{Refused};
 ghost use Rattle.raw_scan.specs.Raw.{asSource, refused, readOf};
 ghost use Rattle.raw.specs.Raw.{entersOf, resumesOf, parseTrace, parseOf, resumeTrace, resumeOf};
 use chars::cursor::Cursor;
@@ -14,19 +15,20 @@ use literal::Terminator;
 use position::Position;
 
 // A refusal of what was given.
-fn refuse_start(number: u8, start: Cursor) -> Refusal
-    ensures { λ r. ⌜ r ≡ refused number start ⌝ }
+fn refuse_start(number: u8, start: Cursor) -> Scanned
+    ensures { λ r. ⌜ r ≡ Refused (refused number start) ⌝ }
 {
     let place = start.place;
-    Refusal {
-        fault: Fault {
-            number,
-            place,
-            part: Part::NONE,
-        },
+    let fault = Fault {
+        number,
+        place,
+        part: Part::NONE,
+    };
+    Scanned::Refused(Refusal {
+        fault,
         cursor: start,
         on_record: Terminator::NONE,
-    }
+    })
 }
 
 // Measures, and writes only what is accepted.
@@ -39,7 +41,7 @@ fn scan(text: &[u8], start: Cursor, hashes: usize, limit: usize, out: &mut [u8])
     let Scanned::Accepted(end, len) = scanned else {
         return scanned;
     };
-    raw_scan::write(text, start, hashes, len, &mut *out);
+    raw_scan::write(text, start, hashes, len, out);
     Scanned::Accepted(end, len)
 }
 
@@ -90,9 +92,9 @@ pub fn parse_raw_string_literal(
     let start = Cursor { at, place };
     let number = enters(text, start);
     if number != 0 {
-        return Scanned::Refused(refuse_start(number, start));
+        return refuse_start(number, start);
     }
-    scan(text, start, 0, limit, &mut *out)
+    scan(text, start, 0, limit, out)
 }
 
 // The same from anywhere in the body of a literal that so many hashes close.
@@ -110,7 +112,7 @@ pub fn resume_raw_string_literal(
     let start = Cursor { at, place };
     let number = resumes(text, start, hashes);
     if number != 0 {
-        return Scanned::Refused(refuse_start(number, start));
+        return refuse_start(number, start);
     }
-    scan(text, start, hashes, limit, &mut *out)
+    scan(text, start, hashes, limit, out)
 }

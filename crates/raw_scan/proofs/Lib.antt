@@ -1,4 +1,5 @@
 pub mod Turns
+pub mod Steps
 pub mod Openings
 pub mod Loops
 pub mod Parts

@@ -1,5 +1,6 @@
 -- A turn of the measuring loop: what is left of the answer after it. Assumes nothing.
 use Prim.Native.Nat.{ℕ, _+_, _-_, _≤_, _<_}
+use native.Mathlib.Omega.{arith}
 use mathlib.Core.Bool.{Bool, true, false}
 use mathlib.Core.List.{List}
 use mathlib.Core.Path.{_≡_, ap, _∙_}
@@ -31,13 +32,14 @@ module _ (lines : Bool) (start : Position) (t : List ℕ) (k at : ℕ) (s : Body
     pub is-over : {e : End} → ((p : Position) → moveAt (rule lines p) t at (reading k s) ≡ over (ends e)) → cut full limit room n rest ≡ Accepted e n
     is-over {e} h = ap (cut full limit room n) (move-over (rule lines start) t at (reading k s) (h start)) ∙ cut-ends full limit room n e
 
-    module _ {m next : ℕ} {r : Body} (a : Adds lines t k at s m next r) (l : n ≤ room) where
-      pub no-room : room - n < m → cut full limit room n rest ≡ Refused full
-      no-room h = rw (went-on a) (cut-full full limit room n m (a .bytes) _ (a .count) l h)
+    -- n′ bytes are in the body then
+    module _ {m next : ℕ} {r : Body} (a : Adds lines t k at s m next r) (l : n ≤ room) {n′ : ℕ} (q : n′ ≡ n + m) where
+      pub no-room : room < n′ → cut full limit room n rest ≡ Refused full
+      no-room h = rw (went-on a) (cut-full full limit room n m (a .bytes) _ (a .count) l (omega arith))
 
-      module _ (h : m ≤ room - n) where
-        pub is-too-long : passes limit (n + m) ≡ true → cut full limit room n rest ≡ Refused (tooLong start k (cursor next (r .place)))
-        is-too-long o = rw (went-on a) (cut-adds full limit room n m (a .bytes) _ (a .count) l h ∙ cut-long full limit room (n + m) _ _ o)
+      module _ (h : n′ ≤ room) where
+        pub is-too-long : passes limit n′ ≡ true → cut full limit room n rest ≡ Refused (tooLong start k (cursor next (r .place)))
+        is-too-long o = rw (went-on a) (cut-adds full limit room n m (a .bytes) _ (a .count) l (omega arith) ∙ cut-long full limit room (n + m) _ _ (rw (← q) o))
 
-        pub goes-on : passes limit (n + m) ≡ false → cut full limit room n rest ≡ cut full limit room (n + m) (runAt (rule lines start) t next (reading k r))
-        goes-on o = rw (went-on a) (cut-adds full limit room n m (a .bytes) _ (a .count) l h ∙ cut-on full limit room (n + m) _ _ o)
+        pub goes-on : passes limit n′ ≡ false → cut full limit room n rest ≡ cut full limit room n′ (runAt (rule lines start) t next (reading k r))
+        goes-on o = rw (went-on a, q) (cut-adds full limit room n m (a .bytes) _ (a .count) l (omega arith) ∙ cut-on full limit room (n + m) _ _ (rw (← q) o))

@@ -124,7 +124,7 @@ module _ (lines : Bool) (t : List ℕ) (start : Cursor) (k : ℕ) {r : Opened} (
 
   module _ {j : ℕ} {from : Cursor} (q : r ≡ At j from) {n : ℕ} (h : n ≡ length (bytes (readOf lines t start k))) where
     pub reaches : Within (length t) r → from .at + n ≤ length t
-    reaches g = rw (h, e, q) (has-room lines (start .place) t j from (subst (Within (length t)) q g))
+    reaches g = rw (h, e, q) (has-room lines (start .place) t j from (subst (Within (length t)) q g .1))
 
     pub written : (l : List ℕ) {l′ : List ℕ} → n ≤ length l → l′ ≡ stored l 0 (take (from .at + n - from .at) (drop (from .at) t)) → l′ ≡ sets l 0 (bytes (readOf lines t start k))
     written l g w =

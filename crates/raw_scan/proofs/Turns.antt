@@ -105,7 +105,7 @@ module _ (lines : Bool) (t : List ℕ) (k at : ℕ) (s : Body) where
           }
 
     -- any other character is kept, behind what was held back
-    kept-adds : {n : ℕ} {p : Position} → (c ≡ 0x22 → ⊥) → both (ltb 0 (s .held)) (eqb c 0x23) ≡ false → n ≡ s .held + (next .at - at) → placed lines (s .held) c (next .place) ≡ p
+    pub kept-adds : {n : ℕ} {p : Position} → (c ≡ 0x22 → ⊥) → both (ltb 0 (s .held)) (eqb c 0x23) ≡ false → n ≡ s .held + (next .at - at) → placed lines (s .held) c (next .place) ≡ p
         → Adds lines t k at s n (next .at) (body 0 p (orElse (s .first) p))
     unfolding turn readingTurn
     kept-adds {n} {p} m o q r =

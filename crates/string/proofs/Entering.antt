@@ -17,8 +17,8 @@ use Rattle.literal.specs.declared.Scanned.{Scanned}
 use Rattle.literal.specs.declared.Scanned.the-variants.{Accepted, Refused}
 use Rattle.literal.proofs.Turns.{cut-fails}
 use Rattle.literal.proofs.Limits.{accepted-whole}
-use Rattle.string_scan.specs.Ends.{argumentAt, fullAt}
-use Rattle.string_scan.specs.Scans.{readingOf}
+use Rattle.string_reading.specs.Ends.{argumentAt, fullAt}
+use Rattle.string_reading.specs.Scans.{readingOf}
 use Rattle.string.specs.Scans.{argumentOf, traceOf, scanOf}
 
 -- a refused scan leaves the memory

@@ -23,8 +23,8 @@ use Rattle.literal.specs.declared.Refusal.{Refusal}
 use Rattle.literal.specs.declared.Scanned.the-variants.{Accepted, Refused}
 use Rattle.literal.proofs.Limits.{accepted-whole, uncut-within, recurs-whole, cut-at-the-first}
 use Rattle.string_take.specs.Kinds.{quote, apostrophe, backtick}
-use Rattle.string_scan.specs.Ends.{fullAt, argumentAt}
-use Rattle.string_scan.proofs.Limited.{reading-sevens}
+use Rattle.string_reading.specs.Ends.{fullAt, argumentAt}
+use Rattle.string_reading.proofs.Limited.{reading-sevens}
 use Rattle.string.specs.Scans.{startOf, argumentOf, traceOf, scanOf}
 
 -- the refusals of the arguments are 1, 2 and 3

@@ -5,7 +5,7 @@ use mathlib.Core.List.{List, [], _∷_, _++_}
 use mathlib.Core.Path.{_≡_, refl}
 use lib.ListN.{length}
 use Rattle.basis.specs.Words.{word}
-use Rattle.position.specs.Place.{place, none, up, advanced, lined, rewound, orElse, isNone, onLine, beginsLine, unwrapOr, positionOf, numbered}
+use Rattle.position.specs.Place.{place, none, up, advanced, lined, rewound, orElse, isNone, onLine, beginsLine, columnNumber}
 use Rattle.position.specs.declared.Position.{Position}
 use Rattle.utf8.specs.Table.{look, lookAt, charsFrom, chars, charsAt, wellFrom, well, edge}
 use Rattle.utf8.specs.Encode.{isScalar, encode, encoded}
@@ -26,8 +26,8 @@ use Rattle.string_take.specs.Kinds.{lf, cr, quote, apostrophe, backtick, dollar
 use Rattle.string_take.specs.Endings.{once, clear, ending, refusal, unterminatedAt, malformedAt}
 use Rattle.string_take.specs.Turns.{isEmpty, nextIs, endOf, dollarOf, takeOf}
 use Rattle.string_act.specs.Turns.{columnOf, closeOf, lineFeedOf, escapeOf, addOf, plainOf, otherOf, matchOf, actOf}
-use Rattle.string_scan.specs.Ends.{argumentAt, tooLongAt, fullAt, lastOf}
-use Rattle.string_scan.specs.Scans.{turnOf, rule, begun, readingOf}
+use Rattle.string_reading.specs.Ends.{argumentAt, tooLongAt, fullAt, lastOf}
+use Rattle.string_reading.specs.Scans.{turnOf, rule, begun, readingOf}
 use Rattle.string.specs.Scans.{startOf, argumentOf, traceOf, scanOf}
 
 -- the answer to a text from offset 0, with room for a hundred bytes
@@ -137,7 +137,7 @@ Arguments =
     × (scanOf (word "a") 0 (place 1 1) quote 0 1 ≡ fault-at 4 (place 1 1) 1 (place 1 3) clear)
 
 pub returns : Source × Examples × Kinds × Decided × Arguments
-unfolding word scanOf traceOf argumentOf startOf readingOf begun rule turnOf takeOf dollarOf endOf closeOf lineFeedOf escapeOf addOf plainOf otherOf matchOf actOf isEmpty columnOf nextIs lastOf argumentAt unterminatedAt malformedAt tooLongAt fullAt isVerbatim isContinued isInterpolated letterOf digitsAfter digitsFrom numberOf escapedOf none up advanced lined rewound orElse isNone onLine beginsLine unwrapOr positionOf numbered look lookAt charsFrom chars charsAt wellFrom well edge isScalar encode encoded digitOf isWhite getNextOf eatNextOf doorOf run runAt yields bytes passes cut
+unfolding word scanOf traceOf argumentOf startOf readingOf begun rule turnOf takeOf dollarOf endOf closeOf lineFeedOf escapeOf addOf plainOf otherOf matchOf actOf isEmpty columnOf nextIs lastOf argumentAt unterminatedAt malformedAt tooLongAt fullAt isVerbatim isContinued isInterpolated letterOf digitsAfter digitsFrom numberOf escapedOf none up advanced lined rewound orElse isNone onLine beginsLine columnNumber look lookAt charsFrom chars charsAt wellFrom well edge isScalar encode encoded digitOf isWhite getNextOf eatNextOf doorOf run runAt yields bytes passes cut
 returns = (
   (refl, refl, refl, refl, refl, refl, refl, refl, refl, refl),
   (refl, refl, refl, refl, refl, refl, refl, refl, refl),

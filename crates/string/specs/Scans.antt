@@ -31,8 +31,8 @@ use Rattle.literal.specs.Trace.{Trace, fails}
 use Rattle.literal.specs.Cut.{cut}
 use Rattle.literal.specs.declared.Scanned.{Scanned}
 use Rattle.string_take.specs.Kinds.{quote, apostrophe, backtick}
-use Rattle.string_scan.specs.Ends.{argumentAt, fullAt}
-use Rattle.string_scan.specs.Scans.{readingOf}
+use Rattle.string_reading.specs.Ends.{argumentAt, fullAt}
+use Rattle.string_reading.specs.Scans.{readingOf}
 
 -- 3: the place is on no line, an ordinary literal starts at column 0, or the terminator is none of the three
 unfoldable pub startOf : Position → ℕ → ℕ

@@ -3,7 +3,7 @@
 ghost use mathlib.Core.Path.{_≡_};
 ghost use lib.ListN.{length};
 ghost use Rattle.literal.specs.Cut.{wrote};
-ghost use Rattle.string_scan.specs.Ends.{argumentAt};
+ghost use Rattle.string_reading.specs.Ends.{argumentAt};
 ghost use Rattle.string.specs.Scans.{startOf, argumentOf, traceOf, scanOf};
 use chars::cursor::Cursor;
 use fault::Fault;

@@ -11,7 +11,6 @@ use Rattle.chars.specs.Cursors.{cursor, eatNextOf}
 use Rattle.chars.specs.declared.cursor.Cursor.{Cursor}
 use Rattle.chars.specs.declared.cursor.Taken.{Taken}
 use Rattle.chars.specs.declared.cursor.Taken.the-variants as taken
-use Rattle.literal.specs.declared.Refusal.{Refusal}
 use Rattle.escape.specs.Escapes.{nothing, escapedOf}
 use Rattle.escape.specs.declared.Escaped.{Escaped}
 use Rattle.escape.specs.declared.Escaped.the-variants as escaped
@@ -59,36 +58,36 @@ module _ (q : ℕ) (start : Position) (at : ℕ) (s : State) {v : Bool} (e : v �
   unfolding lineFeedOf
   line-feed-kept y m = rw (m, sym e ∙ y)
 
-  module _ (n : v ≡ false) {b : Bool} (o : b ≡ isContinued q) {p : Position} (m : p ≡ rewound (s .place)) where
+  module _ (n : v ≡ false) {b : Bool} (o : b ≡ isContinued q) where
     module _ (y : b ≡ true) {f : Bool} (g : f ≡ isEmpty (s .escape)) where
-      pub line-feed-bare : f ≡ true → {r : Refusal} → r ≡ unterminatedAt start (cursor at p) → Over (Bad r) ≡ lineFeedOf q start at s
+      pub line-feed-bare : f ≡ true → {p : Position} → p ≡ rewound (s .place) → {r : Step} → r ≡ Over (Bad (unterminatedAt start (cursor at p))) → r ≡ lineFeedOf q start at s
       unfolding lineFeedOf
-      line-feed-bare h k = rw (k, m, sym e ∙ n, sym o ∙ y, sym g ∙ h)
+      line-feed-bare h m k = rw (k, m, sym e ∙ n, sym o ∙ y, sym g ∙ h)
 
-      pub line-continues : f ≡ false → {l : Position} → l ≡ lined (s .place) → {k : ℕ} → k ≡ columnOf start → Go nothing at (state l (s .first) Empty (k + 1)) ≡ lineFeedOf q start at s
+      pub line-continues : f ≡ false → {l : Position} → l ≡ lined (s .place) → {k : ℕ} → k ≡ columnOf start → {r : State} → r ≡ state l (s .first) Empty (k + 1) → Go nothing at r ≡ lineFeedOf q start at s
       unfolding lineFeedOf
-      line-continues h z k = rw (k, z, sym e ∙ n, sym o ∙ y, sym g ∙ h)
+      line-continues h z k w = rw (w, k, z, sym e ∙ n, sym o ∙ y, sym g ∙ h)
 
-    pub line-feed-other : b ≡ false → {r : Refusal} → r ≡ unterminatedAt start (cursor at p) → Over (Bad r) ≡ lineFeedOf q start at s
+    pub line-feed-other : b ≡ false → {p : Position} → p ≡ rewound (s .place) → {r : Step} → r ≡ Over (Bad (unterminatedAt start (cursor at p))) → r ≡ lineFeedOf q start at s
     unfolding lineFeedOf
-    line-feed-other h k = rw (k, m, sym e ∙ n, sym o ∙ h)
+    line-feed-other h m k = rw (k, m, sym e ∙ n, sym o ∙ h)
 
 -- a character after a backslash
 module _ (t : List ℕ) (q c from at : ℕ) (s : State) {x : Escaped} (e : x ≡ escapedOf t c (cursor at (s .place))) where
-  pub escape-char : {d : ℕ} {next : Cursor} → x ≡ escaped.Char d next → Go d (next .at) (state (next .place) (s .first) Empty (s .skip)) ≡ escapeOf t q c from at s
+  pub escape-char : {d : ℕ} {next : Cursor} → x ≡ escaped.Char d next → {r : State} → r ≡ state (next .place) (s .first) Empty (s .skip) → Go d (next .at) r ≡ escapeOf t q c from at s
   unfolding escapeOf
-  escape-char k = rw (sym e ∙ k)
+  escape-char k z = rw (z, sym e ∙ k)
 
-  pub escape-malformed : {next : Cursor} → x ≡ escaped.Malformed next → {r : Refusal} → r ≡ malformedAt q from next → Over (Bad r) ≡ escapeOf t q c from at s
+  pub escape-malformed : {next : Cursor} → x ≡ escaped.Malformed next → {r : Step} → r ≡ Over (Bad (malformedAt q from next)) → r ≡ escapeOf t q c from at s
   unfolding escapeOf
   escape-malformed k z = rw (z, sym e ∙ k)
 
   module _ (k : x ≡ escaped.Other) where
-    pub escape-terminator : c ≡ q → Go q at (state (s .place) (s .first) Empty (s .skip)) ≡ escapeOf t q c from at s
+    pub escape-terminator : c ≡ q → {r : State} → r ≡ state (s .place) (s .first) Empty (s .skip) → Go q at r ≡ escapeOf t q c from at s
     unfolding escapeOf
-    escape-terminator y = rw (sym e ∙ k, eq-eqb c q y)
+    escape-terminator y z = rw (z, sym e ∙ k, eq-eqb c q y)
 
-    pub escape-unknown : (c ≡ q → ⊥) → {r : Refusal} → r ≡ malformedAt q from (cursor at (s .place)) → Over (Bad r) ≡ escapeOf t q c from at s
+    pub escape-unknown : (c ≡ q → ⊥) → {r : Step} → r ≡ Over (Bad (malformedAt q from (cursor at (s .place)))) → r ≡ escapeOf t q c from at s
     unfolding escapeOf
     escape-unknown n z = rw (z, sym e ∙ k, ne-eqb c q n)
 
@@ -100,13 +99,13 @@ module _ (white : ℕ → Bool) where
       unfolding addOf
       white-skipped h = rw (sym e ∙ y, ← m, lt-ltb k (s .skip) h)
 
-      pub white-kept : s .skip ≤ k → Go c at (state (s .place) (s .first) Empty 0) ≡ addOf white c at s
+      pub white-kept : s .skip ≤ k → {r : State} → r ≡ state (s .place) (s .first) Empty 0 → Go c at r ≡ addOf white c at s
       unfolding addOf
-      white-kept h = rw (sym e ∙ y, ← m, le-ltb k (s .skip) h)
+      white-kept h z = rw (z, sym e ∙ y, ← m, le-ltb k (s .skip) h)
 
-    pub adds-plain : w ≡ false → Go c at (state (s .place) (s .first) Empty 0) ≡ addOf white c at s
+    pub adds-plain : w ≡ false → {r : State} → r ≡ state (s .place) (s .first) Empty 0 → Go c at r ≡ addOf white c at s
     unfolding addOf
-    adds-plain n = rw (sym e ∙ n)
+    adds-plain n z = rw (z, sym e ∙ n)
 
   module _ (q c at : ℕ) (s : State) {v : Bool} (e : v ≡ isVerbatim q) where
     pub plain-in-text : v ≡ true → {r : Step} → r ≡ addOf white c at s → r ≡ plainOf white q c at s

@@ -17,7 +17,7 @@ use Rattle.chars.proofs.Cursors.{ate-took}
 use Rattle.escape.specs.Escapes.{escapedOf}
 use Rattle.escape.specs.declared.Escaped.{Escaped}
 use Rattle.escape.specs.declared.Escaped.the-variants as escaped
-use Rattle.escape.proofs.Reaches.{Reached, there, and-on, took-reached}
+use Rattle.chars.proofs.Reaches.{Reached, there, and-on, took-reached}
 use Rattle.escape.proofs.Ways.{ReachedBy, escaped-reached}
 use Rattle.string_take.specs.Kinds.{lf, cr, backslash, isVerbatim, isContinued}
 use Rattle.string_take.specs.Endings.{clear, ending, malformedAt}

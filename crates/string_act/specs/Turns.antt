@@ -5,7 +5,7 @@ use mathlib.Core.List.{List}
 use lib.Dec.{eqb, ltb}
 use Rattle.basis.specs.Pick.{pick, both, isnt}
 use Rattle.position.specs.declared.Position.{Position}
-use Rattle.position.specs.Place.{lined, rewound, orElse, unwrapOr, positionOf}
+use Rattle.position.specs.Place.{columnNumber, lined, rewound, orElse}
 use Rattle.chars.specs.Cursors.{cursor, eatNextOf}
 use Rattle.chars.specs.declared.cursor.Cursor.{Cursor}
 use Rattle.escape.specs.Escapes.{nothing, escapedOf}
@@ -25,7 +25,7 @@ use Rattle.string_act.specs.declared.Closing.the-variants.{Closed, Open}
 
 -- the column of a place
 unfoldable pub columnOf : Position → ℕ
-columnOf p = unwrapOr (positionOf p) 0
+columnOf p = columnNumber p
 
 -- then, the limit tested, the terminator: alone it closes, doubled it gives itself and the second is taken too; after a backslash it does neither
 unfoldable pub closeOf : List ℕ → ℕ → ℕ → Cursor → Pending → Closing

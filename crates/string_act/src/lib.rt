@@ -6,7 +6,11 @@ ghost use Rattle.classes.specs.White.{isWhite};
 ghost use Rattle.fault.specs.Faults.{part};
 ghost use Rattle.string_take.specs.Kinds.{isVerbatim, isContinued};
 ghost use Rattle.string_take.specs.Endings.{unterminatedAt, malformedAt};
-ghost use Rattle.string_take.specs.Turns.{isEmpty, nextIs};
+ghost use Rattle.chars.specs.Cursors.{cursor};
+ghost use Rattle.string_take.specs.Turns.{state, isEmpty, nextIs};
+ghost use Rattle.string_take.specs.declared.Pending.the-variants.{Empty};
+ghost use Rattle.string_take.specs.declared.Last.the-variants.{Bad};
+ghost use Rattle.string_act.specs.declared.Step.the-variants.{Over};
 ghost use Rattle.string_act.specs.Turns.{
   columnOf,
   closeOf,
@@ -84,7 +88,7 @@ fn is_empty(escape: Pending) -> bool
 fn column(p: Position) -> usize
     ensures { λ r. ⌜ (r ≡ columnOf p) × (r ≤ 65535) ⌝ }
 {
-    p.position().unwrap_or(0)
+    p.column_number() as usize
 }
 
 // Where the last character before an offset stands, if it has one byte.
@@ -118,33 +122,47 @@ fn between(from: usize, to: usize) -> Part
 }
 
 // 4: the record is cleared.
-fn unterminated(start: Position, here: Cursor) -> Refusal
-    ensures { λ r. ⌜ r ≡ unterminatedAt start here ⌝ }
+fn unterminated(start: Position, at: usize, place: Position) -> Step
+    ensures { λ r. ⌜ r ≡ Over (Bad (unterminatedAt start (cursor at place))) ⌝ }
 {
-    Refusal {
-        fault: Fault {
-            number: Fault::UNTERMINATED_STRING,
-            place: start,
-            part: Part::NONE,
-        },
-        cursor: here,
+    let fault = Fault {
+        number: Fault::UNTERMINATED_STRING,
+        place: start,
+        part: Part::NONE,
+    };
+    Step::Over(Last::Bad(Refusal {
+        fault,
+        cursor: Cursor { at, place },
         on_record: Terminator::NONE,
-    }
+    }))
 }
 
 // 6: the terminator stays on record.
-fn malformed(q: u32, from: usize, here: Cursor) -> Refusal
-    ensures { λ r. ⌜ r ≡ malformedAt q from here ⌝ }
+fn malformed(q: u32, from: usize, here: Cursor) -> Step
+    ensures { λ r. ⌜ r ≡ Over (Bad (malformedAt q from here)) ⌝ }
 {
     let place = here.place;
-    Refusal {
-        fault: Fault {
-            number: Fault::MALFORMED_ESCAPE_SEQUENCE,
-            place,
-            part: between(from, here.at),
-        },
+    let fault = Fault {
+        number: Fault::MALFORMED_ESCAPE_SEQUENCE,
+        place,
+        part: between(from, here.at),
+    };
+    Step::Over(Last::Bad(Refusal {
+        fault,
         cursor: here,
         on_record: Terminator { c: q, times: 1 },
+    }))
+}
+
+// A state with no escape pending.
+fn settled(place: Position, first: Position, skip: usize) -> State
+    ensures { λ r. ⌜ r ≡ state place first Empty skip ⌝ }
+{
+    State {
+        place,
+        first,
+        escape: Pending::Empty,
+        skip,
     }
 }
 
@@ -171,36 +189,26 @@ fn close(text: &[u8], q: u32, c: u32, here: Cursor, escape: Pending) -> Closing
 fn line_feed(q: u32, start: Position, at: usize, s: State) -> Step
     ensures { λ r. ⌜ r ≡ lineFeedOf q start at s ⌝ }
 {
-    let place = s.place;
-    let first = s.first;
     let escape = s.escape;
-    let skip = s.skip;
     if is_verbatim(q) {
+        let place = s.place.lined();
+        let first = s.first;
         let next = State {
-            place: place.lined(),
+            place,
             first,
             escape,
-            skip,
+            skip: s.skip,
         };
         return Step::Go(LF, at, next);
     }
-    let rewound = Cursor {
-        at,
-        place: place.rewound(),
-    };
     if is_continued(q) {
         if is_empty(escape) {
-            return Step::Over(Last::Bad(unterminated(start, rewound)));
+            return unterminated(start, at, s.place.rewound());
         }
-        let next = State {
-            place: place.lined(),
-            first,
-            escape: Pending::Empty,
-            skip: column(start) + 1,
-        };
-        return Step::Go(NOTHING, at, next);
+        let skip = column(start) + 1;
+        return Step::Go(NOTHING, at, settled(s.place.lined(), s.first, skip));
     }
-    Step::Over(Last::Bad(unterminated(start, rewound)))
+    unterminated(start, at, s.place.rewound())
 }
 
 // The character behind a backslash. The skipping of white space goes on.
@@ -208,35 +216,19 @@ fn escaped(text: &[u8], q: u32, c: u32, from: usize, at: usize, s: State) -> Ste
     ensures { λ r. ⌜ r ≡ escapeOf (now (text .entry)) q c from at s ⌝ }
 {
     let place = s.place;
-    let first = s.first;
-    let until = s.skip;
     let here = Cursor { at, place };
-    let escape = Pending::Empty;
     match escape::unescape(text, c, here) {
         Escaped::Char(d, next) => {
-            let place = next.place;
-            let to = State {
-                place,
-                first,
-                escape,
-                skip: until,
-            };
-            return Step::Go(d, next.at, to);
+            return Step::Go(d, next.at, settled(next.place, s.first, s.skip));
         }
         Escaped::Malformed(next) => {
-            return Step::Over(Last::Bad(malformed(q, from, next)));
+            return malformed(q, from, next);
         }
         Escaped::Other => {
             if c == q {
-                let to = State {
-                    place,
-                    first,
-                    escape,
-                    skip: until,
-                };
-                return Step::Go(q, at, to);
+                return Step::Go(q, at, settled(place, s.first, s.skip));
             }
-            return Step::Over(Last::Bad(malformed(q, from, here)));
+            return malformed(q, from, here);
         }
     }
 }
@@ -245,16 +237,9 @@ fn escaped(text: &[u8], q: u32, c: u32, from: usize, at: usize, s: State) -> Ste
 fn add(c: u32, at: usize, s: State) -> Step
     ensures { λ r. ⌜ r ≡ addOf isWhite c at s ⌝ }
 {
-    let place = s.place;
-    let first = s.first;
-    let next = State {
-        place,
-        first,
-        escape: Pending::Empty,
-        skip: 0,
-    };
+    let next = settled(s.place, s.first, 0);
     if classes::is_white(c) {
-        if column(place) < s.skip {
+        if column(s.place) < s.skip {
             return Step::Go(NOTHING, at, s);
         }
         return Step::Go(c, at, next);

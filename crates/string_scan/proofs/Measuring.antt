@@ -2,27 +2,22 @@
 use Prim.Native.Nat.{ℕ, _+_, _-_, _≤_, _<_}
 use native.Mathlib.Omega.{arith}
 use mathlib.Core.List.{List}
-use mathlib.Core.Path.{_≡_, refl, sym, ap, _∙_}
+use mathlib.Core.Path.{_≡_, sym, _∙_}
 use lib.ListN.{length}
 use Rattle.utf8.specs.Encode.{encoded}
 use Rattle.classes.specs.White.{isWhite}
 use Rattle.chars.specs.declared.cursor.Cursor.{Cursor}
 use Rattle.literal.specs.Cut.{cut}
-use Rattle.literal.specs.declared.Refusal.{Refusal}
 use Rattle.literal.specs.declared.Scanned.{Scanned}
 use Rattle.literal.specs.declared.Scanned.the-variants.{Refused}
 use Rattle.literal.proofs.Turns.{cut-on, cut-full, cut-adds}
 use Rattle.string_take.specs.declared.State.{State}
-use Rattle.string_scan.specs.Ends.{argumentAt, fullAt}
-use Rattle.string_scan.specs.Scans.{begun, readingOf}
-use Rattle.string_scan.specs.Limited.{rest, Answers, GoesOn, Tells}
+use Rattle.string_reading.specs.Ends.{fullAt}
+use Rattle.string_reading.specs.Scans.{begun, readingOf}
+use Rattle.string_scan.specs.Limited.{Answers, GoesOn, Tells}
+use Rattle.string_reading.specs.Scans.{rest}
 use Rattle.string_scan.specs.declared.Turned.{Turned}
 use Rattle.string_scan.specs.declared.Turned.the-variants.{On, Over}
-
--- 9 stands where the other refusals from outside do
-pub full-is : (from : Cursor) → argumentAt 9 from ≡ fullAt from
-unfolding argumentAt fullAt
-full-is from = refl
 
 pub record Measured (t : List ℕ) (from : Cursor) (q limit room at : ℕ) (s : State) (n : ℕ) : Type 0 where
   pub within : n ≤ room
@@ -47,10 +42,10 @@ module _ (t : List ℕ) (from : Cursor) (q limit room : ℕ) where
       measured-less = omega (arith, went .low, went .high)
 
       module _ {m : ℕ} (z : m ≡ length (encoded d)) where
-        pub measured-full : room - n < m → {f : Refusal} → f ≡ argumentAt 9 from → Refused f ≡ cut (fullAt from) limit room 0 (readingOf isWhite t q from)
+        pub measured-full : room - n < m → {a : Scanned} → a ≡ Refused (fullAt from) → a ≡ cut (fullAt from) limit room 0 (readingOf isWhite t q from)
         measured-full h k =
             rw (i .is, went .is, cut-on (fullAt from) limit room n _ _ (went .within), cut-full (fullAt from) limit room n m _ _ (sym z) (i .within) h)
-            (ap Refused (k ∙ full-is from))
+            k
 
         pub measured-more : m ≤ room - n → Measured t from q limit room next r (n + m)
         measured-more h =

@@ -23,14 +23,15 @@ use Rattle.string_take.specs.declared.Got.{Got}
 use Rattle.string_take.specs.declared.Got.the-variants as got
 use Rattle.string_act.specs.declared.Step.{Step}
 use Rattle.string_act.specs.declared.Step.the-variants as step
-use Rattle.string_scan.specs.Ends.{tooLongAt, lastOf}
-use Rattle.string_scan.specs.Limited.{rest, Answers, GoesOn}
-use Rattle.string_scan.proofs.Readings.{over-at-once, over-then, goes-on, goes-low, goes-high}
+use Rattle.string_reading.specs.Ends.{tooLongAt, lastOf}
+use Rattle.string_scan.specs.Limited.{Answers, GoesOn}
+use Rattle.string_reading.specs.Scans.{rest}
+use Rattle.string_reading.proofs.Readings.{over-at-once, over-then, goes-on, goes-low, goes-high}
 
 -- how a scan is over
 module _ (start : Position) (limit n : ℕ) {last : Last} where
   module _ {e : End} (g : last ≡ Good e) {b : Bool} (o : b ≡ passes limit n) where
-    pub over-limit : b ≡ true → {f : Refusal} → f ≡ tooLongAt start (e .cursor) (e .on_record) → Answers limit n (lastOf start last) (Refused f)
+    pub over-limit : b ≡ true → {r : Scanned} → r ≡ Refused (tooLongAt start (e .cursor) (e .on_record)) → Answers limit n (lastOf start last) r
     unfolding lastOf
     over-limit y k = record { is = λ full room. rw (g, k) (cut-long full limit room n _ _ (sym o ∙ y)) }
 
@@ -49,12 +50,12 @@ module _ (t : List ℕ) (q : ℕ) (start : Position) (limit n at : ℕ) (s : Sta
 
   module _ {c : ℕ} {here : Cursor} (k : x ≡ got.Char c here) where
     module _ {b : Bool} (o : b ≡ passes limit n) where
-      pub turn-long : b ≡ true → {f : Refusal} → f ≡ tooLongAt start here (once q) → Answers limit n (rest t q start at s) (Refused f)
-      turn-long y {f} e = record { is = λ full room. by full room (actOf isWhite t q start c here s) refl }
+      pub turn-long : b ≡ true → {r : Scanned} → r ≡ Refused (tooLongAt start here (once q)) → Answers limit n (rest t q start at s) r
+      turn-long y {r} e = record { is = λ full room. by full room (actOf isWhite t q start c here s) refl }
         where
-          by : (full : Refusal) (room : ℕ) (a : Step) → actOf isWhite t q start c here s ≡ a → cut full limit room n (rest t q start at s) ≡ Refused f
+          by : (full : Refusal) (room : ℕ) (a : Step) → actOf isWhite t q start c here s ≡ a → cut full limit room n (rest t q start at s) ≡ r
           by full room (step.Over last) z = rw (over-then isWhite t q start at s (sym g ∙ k) z, e) (cut-long full limit room n _ _ (sym o ∙ y))
-          by full room (step.Go d next r) z = rw (goes-on isWhite t q start at s (sym g ∙ k) z, e) (cut-long full limit room n _ _ (sym o ∙ y))
+          by full room (step.Go d next s′) z = rw (goes-on isWhite t q start at s (sym g ∙ k) z, e) (cut-long full limit room n _ _ (sym o ∙ y))
 
       module _ (y : b ≡ false) {a : Step} (f : a ≡ actOf isWhite t q start c here s) where
         pub turn-stops : {last : Last} → a ≡ step.Over last → {r : Scanned} → Answers limit n (lastOf start last) r → Answers limit n (rest t q start at s) r

@@ -6,20 +6,14 @@ use mathlib.Core.Path.{_≡_}
 use lib.ListN.{length}
 use Rattle.position.specs.declared.Position.{Position}
 use Rattle.utf8.specs.Encode.{encoded}
-use Rattle.chars.specs.Scan.{runAt}
-use Rattle.classes.specs.White.{isWhite}
 use Rattle.literal.specs.Trace.{Trace, adds, checks, passes}
 use Rattle.literal.specs.Cut.{cut}
 use Rattle.literal.specs.declared.Refusal.{Refusal}
 use Rattle.literal.specs.declared.Scanned.{Scanned}
 use Rattle.string_take.specs.declared.State.{State}
-use Rattle.string_scan.specs.Scans.{rule}
+use Rattle.string_reading.specs.Scans.{rest}
 use Rattle.string_scan.specs.declared.Turned.{Turned}
 use Rattle.string_scan.specs.declared.Turned.the-variants.{On, Over}
-
--- what is left to read from an offset, in a state
-abbrev pub rest : List ℕ → ℕ → Position → ℕ → State → Trace
-rest t q start at s = runAt (rule isWhite t q start) t at s
 
 -- under a limit, with n bytes so far, a reading is answered so, whatever the room
 pub record Answers (limit n : ℕ) (x : Trace) (r : Scanned) : Type 0 where

@@ -4,8 +4,9 @@ ghost use lib.ListN.{length};
 ghost use Rattle.classes.specs.White.{isWhite};
 ghost use Rattle.utf8.specs.Encode.{encoded};
 ghost use Rattle.literal.specs.Cut.{cut};
-ghost use Rattle.string_scan.specs.Ends.{argumentAt, tooLongAt, fullAt, lastOf};
-ghost use Rattle.string_scan.specs.Scans.{begun, readingOf};
+ghost use Rattle.literal.specs.declared.Scanned.the-variants.{Refused};
+ghost use Rattle.string_reading.specs.Ends.{tooLongAt, fullAt, lastOf};
+ghost use Rattle.string_reading.specs.Scans.{begun, readingOf};
 ghost use Rattle.string_scan.specs.Limited.{Answers, Tells};
 use chars::cursor::Cursor;
 use fault::Fault;
@@ -46,34 +47,36 @@ fn size(c: u32) -> usize
 }
 
 // 7: what is on record there stays.
-fn too_long(start: Position, here: Cursor, on_record: Terminator) -> Refusal
-    ensures { λ r. ⌜ r ≡ tooLongAt start here on_record ⌝ }
+fn too_long(start: Position, here: Cursor, on_record: Terminator) -> Scanned
+    ensures { λ r. ⌜ r ≡ Refused (tooLongAt start here on_record) ⌝ }
 {
-    Refusal {
-        fault: Fault {
-            number: Fault::STRING_TOO_LONG,
-            place: start,
-            part: Part::NONE,
-        },
+    let fault = Fault {
+        number: Fault::STRING_TOO_LONG,
+        place: start,
+        part: Part::NONE,
+    };
+    Scanned::Refused(Refusal {
+        fault,
         cursor: here,
         on_record,
-    }
+    })
 }
 
-// A refusal that stands where the scan began.
-fn refused(number: u8, from: Cursor) -> Refusal
-    ensures { λ r. ⌜ r ≡ argumentAt number from ⌝ }
+// 9, which stands where the scan began.
+fn full(from: Cursor) -> Scanned
+    ensures { λ r. ⌜ r ≡ Refused (fullAt from) ⌝ }
 {
     let place = from.place;
-    Refusal {
-        fault: Fault {
-            number,
-            place,
-            part: Part::NONE,
-        },
+    let fault = Fault {
+        number: Fault::NO_LITERAL_ROOM,
+        place,
+        part: Part::NONE,
+    };
+    Scanned::Refused(Refusal {
+        fault,
         cursor: from,
         on_record: Terminator::NONE,
-    }
+    })
 }
 
 // How a scan is over under a limit, with a body of n bytes.
@@ -83,8 +86,7 @@ fn answered(start: Position, limit: usize, n: usize, last: Last) -> Scanned
     match last {
         Last::Good(end) => {
             if literal::is_over(limit, n) {
-                let here = end.cursor;
-                return Scanned::Refused(too_long(start, here, end.on_record));
+                return too_long(start, end.cursor, end.on_record);
             }
             return Scanned::Accepted(end, n);
         }
@@ -105,7 +107,7 @@ fn turn(text: &[u8], q: u32, start: Position, limit: usize, n: usize, at: usize,
         Got::Char(c, here) => {
             if literal::is_over(limit, n) {
                 let on_record = Terminator { c: q, times: 1 };
-                return Turned::Over(Scanned::Refused(too_long(start, here, on_record)));
+                return Turned::Over(too_long(start, here, on_record));
             }
             match string_act::act(text, q, start, c, here, s) {
                 Step::Over(last) => {
@@ -148,7 +150,7 @@ pub fn measure(text: &[u8], from: Cursor, q: u32, limit: usize, room: usize) -> 
             Turned::On(d, next, r) => {
                 let m = size(d);
                 if room - n < m {
-                    return Scanned::Refused(refused(Fault::NO_LITERAL_ROOM, from));
+                    return full(from);
                 }
                 n += m;
                 at = next;

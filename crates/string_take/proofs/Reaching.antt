@@ -13,7 +13,7 @@ use Rattle.chars.specs.declared.cursor.Cursor.{Cursor}
 use Rattle.chars.specs.declared.cursor.Taken.{Taken}
 use Rattle.chars.specs.declared.cursor.Taken.the-variants as taken
 use Rattle.chars.proofs.Cursors.{got-took, ate-took}
-use Rattle.escape.proofs.Reaches.{Further, further-on, took-reached, took-further}
+use Rattle.chars.proofs.Reaches.{Further, further-on, took-reached, took-further}
 use Rattle.string_take.specs.Kinds.{dollar, backslash, leftBrace, isVerbatim, isContinued, isInterpolated}
 use Rattle.string_take.specs.Endings.{unterminatedAt}
 use Rattle.string_take.specs.Turns.{isEmpty, nextIs, onTaken, endOf, dollarOf, takeOf}

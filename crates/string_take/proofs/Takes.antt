@@ -11,7 +11,6 @@ use Rattle.chars.specs.Cursors.{cursor, getNextOf, eatNextOf}
 use Rattle.chars.specs.declared.cursor.Cursor.{Cursor}
 use Rattle.chars.specs.declared.cursor.Taken.{Taken}
 use Rattle.chars.specs.declared.cursor.Taken.the-variants as taken
-use Rattle.literal.specs.declared.Refusal.{Refusal}
 use Rattle.string_take.specs.Kinds.{dollar, backslash, leftBrace, isVerbatim, isContinued, isInterpolated}
 use Rattle.string_take.specs.Endings.{once, clear, ending, refusal, unterminatedAt}
 use Rattle.string_take.specs.Turns.{isEmpty, nextIs, endOf, dollarOf, takeOf}
@@ -69,7 +68,7 @@ module _ (q : ℕ) (start : Position) (at : ℕ) (s : State) {p : Position} (m :
 
   module _ (n : v ≡ false) {b : Bool} (o : b ≡ isContinued q) where
     module _ (y : b ≡ true) {f : Bool} (g : f ≡ isEmpty (s .escape)) where
-      pub ordinary-cut : f ≡ true → {r : Refusal} → r ≡ unterminatedAt start (cursor at p) → Bad r ≡ endOf q start at s
+      pub ordinary-cut : f ≡ true → {r : Last} → r ≡ Bad (unterminatedAt start (cursor at p)) → r ≡ endOf q start at s
       unfolding endOf
       ordinary-cut h k = rw (k, sym e ∙ n, sym o ∙ y, sym g ∙ h, m)
 
@@ -77,7 +76,7 @@ module _ (q : ℕ) (start : Position) (at : ℕ) (s : State) {p : Position} (m :
       unfolding endOf
       ordinary-open h k = rw (k, sym e ∙ n, sym o ∙ y, sym g ∙ h, m)
 
-    pub other-cut : b ≡ false → {r : Refusal} → r ≡ unterminatedAt start (cursor at p) → Bad r ≡ endOf q start at s
+    pub other-cut : b ≡ false → {r : Last} → r ≡ Bad (unterminatedAt start (cursor at p)) → r ≡ endOf q start at s
     unfolding endOf
     other-cut y k = rw (k, sym e ∙ n, sym o ∙ y, m)
 

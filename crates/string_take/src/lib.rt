@@ -93,18 +93,19 @@ fn next_is(text: &[u8], at: usize, c: u32) -> bool
 }
 
 // 4: the record is cleared.
-fn unterminated(start: Position, here: Cursor) -> Refusal
-    ensures { λ r. ⌜ r ≡ unterminatedAt start here ⌝ }
+fn unterminated(start: Position, here: Cursor) -> Last
+    ensures { λ r. ⌜ r ≡ Last.Bad (unterminatedAt start here) ⌝ }
 {
-    Refusal {
-        fault: Fault {
-            number: Fault::UNTERMINATED_STRING,
-            place: start,
-            part: Part::NONE,
-        },
+    let fault = Fault {
+        number: Fault::UNTERMINATED_STRING,
+        place: start,
+        part: Part::NONE,
+    };
+    Last::Bad(Refusal {
+        fault,
         cursor: here,
         on_record: Terminator::NONE,
-    }
+    })
 }
 
 // The end of input adds a column. What may go on in a further text keeps its terminator on record.
@@ -112,19 +113,18 @@ fn at_end(q: u32, start: Position, at: usize, s: State) -> Last
     ensures { λ r. ⌜ r ≡ endOf q start at s ⌝ }
 {
     let place = s.place.advanced();
-    let first = s.first;
-    let escape = s.escape;
     let here = Cursor { at, place };
     if is_verbatim(q) {
-        return still_open(q, here, first);
+        return still_open(q, here, s.first);
     }
     if is_continued(q) {
+        let escape = s.escape;
         if escape.is_empty() {
-            return Last::Bad(unterminated(start, here));
+            return unterminated(start, here);
         }
-        return still_open(q, here, first);
+        return still_open(q, here, s.first);
     }
-    Last::Bad(unterminated(start, here))
+    unterminated(start, here)
 }
 
 // An end that is accepted with the terminator on record.
@@ -174,7 +174,6 @@ pub fn take(text: &[u8], q: u32, start: Position, at: usize, s: State) -> Got
     ensures { λ r. ⌜ r ≡ takeOf (now (text .entry)) q start at s ⌝ }
 {
     let place = s.place;
-    let first = s.first;
     let escape = s.escape;
     let from = Cursor { at, place };
     let Taken::Char(c, here) = from.eat_next_and_advance(text) else {
@@ -182,7 +181,7 @@ pub fn take(text: &[u8], q: u32, start: Position, at: usize, s: State) -> Got
     };
     if is_interpolated(q) {
         if escape.is_empty() {
-            return dollar(text, c, here, first);
+            return dollar(text, c, here, s.first);
         }
         return Got::Char(c, here);
     }

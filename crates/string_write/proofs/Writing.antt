@@ -21,10 +21,10 @@ use Rattle.string_take.specs.declared.Got.{Got}
 use Rattle.string_take.specs.declared.Got.the-variants as got
 use Rattle.string_act.specs.declared.Step.{Step}
 use Rattle.string_act.specs.declared.Step.the-variants as step
-use Rattle.string_scan.specs.Ends.{lastOf}
-use Rattle.string_scan.specs.Scans.{begun, readingOf}
-use Rattle.string_scan.specs.Limited.{rest}
-use Rattle.string_scan.proofs.Readings.{over-at-once, over-then, goes-on, goes-low, goes-high}
+use Rattle.string_reading.specs.Ends.{lastOf}
+use Rattle.string_reading.specs.Scans.{begun, readingOf}
+use Rattle.string_reading.specs.Scans.{rest}
+use Rattle.string_reading.proofs.Readings.{over-at-once, over-then, goes-on, goes-low, goes-high}
 
 -- where a reading is over nothing is added
 last-bytes : (start : Position) (last : Last) → bytes (lastOf start last) ≡ []

@@ -5,7 +5,7 @@ ghost use lib.ListN.{length};
 ghost use Rattle.basis.specs.Store.{over};
 ghost use Rattle.classes.specs.White.{isWhite};
 ghost use Rattle.literal.specs.Trace.{bytes};
-ghost use Rattle.string_scan.specs.Scans.{begun, readingOf};
+ghost use Rattle.string_reading.specs.Scans.{begun, readingOf};
 use chars::cursor::Cursor;
 use position::Position;
 use string_act::Step;

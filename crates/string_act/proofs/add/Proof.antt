@@ -5,8 +5,10 @@ use Rattle.string_act.proofs.add.Statement.{statement}
 use Rattle.string_act.proofs.add.Tie as tie
 
 pub add-spec : {M : Type 1} → statement M
-add-spec = tie.close
+add-spec =
+    tie.close
     (tie.spec
+    (λ c κs. search needs)
     (λ c κs. search needs)
     (λ c κs. search needs)
     (λ c. search white-skipped)

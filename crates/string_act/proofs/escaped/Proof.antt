@@ -10,11 +10,13 @@ escaped-spec =
     (tie.spec
     (λ c κs. search needs)
     (λ c. search needs)
+    (λ c κs. search needs)
     (λ c. search escape-char)
     (λ c. search needs)
     (λ c κs. search needs)
     (λ c. search escape-malformed)
     (λ c. search needs)
+    (λ c κs. search needs)
     (λ c. search escape-terminator)
     (λ c κs. search needs)
     (λ c. search escape-unknown))

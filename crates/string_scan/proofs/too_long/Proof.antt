@@ -1,6 +1,6 @@
 -- The refusal is the one that the definition names.
 use mathlib.Core.Path.{refl}
-use Rattle.string_scan.specs.Ends.{tooLongAt}
+use Rattle.string_reading.specs.Ends.{tooLongAt}
 use Rattle.string_scan.proofs.too_long.Statement.{statement}
 use Rattle.string_scan.proofs.too_long.Tie as tie
 

@@ -2,7 +2,7 @@
 use Prim.Native.Nat.{_-_}
 use lib.ListN.{length}
 use borrow.Author.Needs.{needs}
-use Rattle.string_scan.specs.Limited.{rest}
+use Rattle.string_reading.specs.Scans.{rest}
 use Rattle.string_write.proofs.Writing.{Written, written-start, written-none, written-last, written-less, written-more}
 use Rattle.string_write.proofs.write.Statement.{statement}
 use Rattle.string_write.proofs.write.Tie as tie

@@ -7,6 +7,7 @@ use Rattle.position.specs.declared.Position.{Position}
 use Rattle.position.specs.Place.{none}
 use Rattle.utf8.specs.Table.{Ch, charsAt}
 use Rattle.utf8.specs.Encode.{encoded}
+use Rattle.classes.specs.White.{isWhite}
 use Rattle.chars.specs.Scan.{Turn, go, stop, Rule, runAt}
 use Rattle.chars.specs.declared.cursor.Cursor.{Cursor}
 use Rattle.literal.specs.Trace.{Trace, checks, Yield, added, tested, yields}
@@ -20,7 +21,7 @@ use Rattle.string_take.specs.declared.Got.{Got}
 use Rattle.string_take.specs.declared.Got.the-variants as got
 use Rattle.string_act.specs.declared.Step.{Step}
 use Rattle.string_act.specs.declared.Step.the-variants as step
-use Rattle.string_scan.specs.Ends.{tooLongAt, lastOf}
+use Rattle.string_reading.specs.Ends.{tooLongAt, lastOf}
 
 -- a character that was taken, or the scan over
 abbrev pub onGot : {A : Type 0} → Got → (ℕ → Cursor → A) → (Last → A) → A
@@ -52,3 +53,7 @@ begun p = state p none Empty 0
 -- the literal's reading by the unlimited rules, from a cursor whose place is the literal's start
 unfoldable pub readingOf : (ℕ → Bool) → List ℕ → ℕ → Cursor → Trace
 readingOf white t q from = runAt (rule white t q (from .place)) t (from .at) (begun (from .place))
+
+-- what is left to read from an offset, in a state
+abbrev pub rest : List ℕ → ℕ → Position → ℕ → State → Trace
+rest t q start at s = runAt (rule isWhite t q start) t at s

@@ -16,7 +16,7 @@ use Rattle.chars.specs.declared.cursor.Cursor.{Cursor}
 use Rattle.chars.proofs.Scans.{move-on, move-over, at-end, many-on, is-over}
 use Rattle.chars.proofs.Cursors.{ate-none}
 use Rattle.literal.specs.Trace.{Trace, adds, checks, Yield, added, tested, yields}
-use Rattle.escape.proofs.Reaches.{Reached, Further, behind, further-on, Counted, counted, further-low, further-high}
+use Rattle.chars.proofs.Reaches.{Reached, Further, behind, further-on, Counted, counted, further-low, further-high}
 use Rattle.string_take.specs.Endings.{once}
 use Rattle.string_take.specs.Turns.{endOf, takeOf}
 use Rattle.string_act.specs.Turns.{actOf}
@@ -27,8 +27,8 @@ use Rattle.string_take.specs.declared.Got.the-variants as got
 use Rattle.string_act.specs.declared.Step.the-variants as step
 use Rattle.string_take.proofs.Reaching.{take-gets}
 use Rattle.string_act.proofs.Reaching.{act-steps}
-use Rattle.string_scan.specs.Ends.{tooLongAt, lastOf}
-use Rattle.string_scan.specs.Scans.{turnOf, rule}
+use Rattle.string_reading.specs.Ends.{tooLongAt, lastOf}
+use Rattle.string_reading.specs.Scans.{turnOf, rule}
 
 over-is : {x y : Last} → got.Over x ≡ got.Over y → x ≡ y
 over-is e = cc

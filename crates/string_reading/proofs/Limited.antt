@@ -23,8 +23,8 @@ use Rattle.string_act.specs.declared.Step.{Step}
 use Rattle.string_act.specs.declared.Step.the-variants as step
 use Rattle.string_take.proofs.Reaching.{Fair, Gets, take-gets, end-fair}
 use Rattle.string_act.proofs.Reaching.{Steps, act-steps}
-use Rattle.string_scan.specs.Ends.{tooLongAt, lastOf}
-use Rattle.string_scan.specs.Scans.{onGot, onStep, turnOf, rule, begun, readingOf}
+use Rattle.string_reading.specs.Ends.{tooLongAt, lastOf}
+use Rattle.string_reading.specs.Scans.{onGot, onStep, turnOf, rule, begun, readingOf}
 
 last-sevens : (start : Position) (last : Last) → Fair last → Sevens (lastOf start last)
 unfolding lastOf tooLongAt
