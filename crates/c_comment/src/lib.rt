@@ -1,9 +1,8 @@
-// Comments through C: `scan_block_comment` and `is_doc_comment` on numbers and byte slices.
+// Block comments through C: `scan_block_comment` on numbers and byte slices.
 ghost use mathlib.Core.Path.{_≡_};
 ghost use Prim.Native.Nat.{_≤_};
 ghost use lib.ListN.{getD};
 ghost use Rattle.comment.specs.Block.{told};
-ghost use Rattle.comment.specs.Doc.{isDocComment};
 ghost use Rattle.numbers.specs.Answer.{returned, answered};
 ghost use Rattle.c_comment.specs.Row.{listed, rowOf};
 use chars::cursor::Cursor;
@@ -53,15 +52,8 @@ pub extern "C" fn stew_scan_block_comment(
         return 9;
     }
     let place = Position::given(line, column);
-    let scanned = comment::scan_block_comment(text, at, place, level);
+    let scanned = block_comment::scan_block_comment(text, at, place, level);
     let row = row_of(level, Cursor { at, place }, scanned);
     numbers::write_row(&row, 8, &mut *answer);
     row[0] as u32
-}
-
-#[no_mangle]
-pub extern "C" fn stew_is_doc_comment(comment: &[u8]) -> bool
-    ensures { λ r. ⌜ r ≡ isDocComment (now (comment .entry)) ⌝ }
-{
-    comment::is_doc_comment(comment)
 }

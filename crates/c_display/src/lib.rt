@@ -1,44 +1,40 @@
-// C names of the words of places and spans: they go into the lent bytes, and their length comes out.
+// C name of the words of places and spans: they go into the lent bytes, and their length comes out.
 ghost use mathlib.Core.Path.{_≡_};
-ghost use Rattle.display.specs.Forms.{displayOf, debugOf, spanOf};
 ghost use Rattle.lent.specs.Written.{writtenOf, leftOf};
 ghost use Rattle.pack.specs.Numbers.{writtenAsNumber};
-ghost use Rattle.position.specs.Place.{given};
-ghost use Rattle.span.specs.Spans.{newSpan};
+ghost use Rattle.c_display.specs.Forms.{formOf, wordsOf};
+use lent::Written;
 use position::Position;
 use span::Span;
 
-// Display for Position: the length, or 9 times 2^32 where the text has no room.
-#[no_mangle]
-pub extern "C" fn stew_position_display(line: u16, column: u16, out: &mut [u8]) -> u64
-    ensures { λ r. ⌜ r ≡ writtenAsNumber (writtenOf (displayOf (given line column)) (now (out .entry))) ⌝ }
-    ensures { λ r. ⌜ now (out .exit) ≡ leftOf (displayOf (given line column)) (now (out .entry)) ⌝ }
+// Display of the first place, Debug of it, or Display of the span between the two.
+fn write_form(form: u8, p: Position, q: Position, out: &mut [u8]) -> Written
+    ensures { λ r. ⌜ r ≡ writtenOf (formOf form p q) (now (out .entry)) ⌝ }
+    ensures { λ r. ⌜ now (out .exit) ≡ leftOf (formOf form p q) (now (out .entry)) ⌝ }
 {
-    pack::written_as_number(display::display(Position::given(line, column), out))
+    if form == 0 {
+        return display::display(p, out);
+    }
+    if form == 1 {
+        return display::debug(p, out);
+    }
+    display::display_span(Span::new(p, q), out)
 }
 
-// Debug for Position: the same.
+// The length, or 9 times 2^32 where the text has no room. The form: 0 for Display, 1 for Debug, any other for Display of the span.
 #[no_mangle]
-pub extern "C" fn stew_position_debug(line: u16, column: u16, out: &mut [u8]) -> u64
-    ensures { λ r. ⌜ r ≡ writtenAsNumber (writtenOf (debugOf (given line column)) (now (out .entry))) ⌝ }
-    ensures { λ r. ⌜ now (out .exit) ≡ leftOf (debugOf (given line column)) (now (out .entry)) ⌝ }
-{
-    pack::written_as_number(display::debug(Position::given(line, column), out))
-}
-
-// Display for Span: the same.
-#[no_mangle]
-pub extern "C" fn stew_span_display(
+pub extern "C" fn stew_display(
+    form: u8,
     line: u16,
     column: u16,
     line2: u16,
     column2: u16,
     out: &mut [u8],
 ) -> u64
-    ensures { λ r. ⌜ r ≡ writtenAsNumber (writtenOf (spanOf (newSpan (given line column) (given line2 column2))) (now (out .entry))) ⌝ }
-    ensures { λ r. ⌜ now (out .exit) ≡ leftOf (spanOf (newSpan (given line column) (given line2 column2))) (now (out .entry)) ⌝ }
+    ensures { λ r. ⌜ r ≡ writtenAsNumber (writtenOf (wordsOf form line column line2 column2) (now (out .entry))) ⌝ }
+    ensures { λ r. ⌜ now (out .exit) ≡ leftOf (wordsOf form line column line2 column2) (now (out .entry)) ⌝ }
 {
-    let end = Position::given(line2, column2);
-    let span = Span::new(Position::given(line, column), end);
-    pack::written_as_number(display::display_span(span, out))
+    let p = Position::given(line, column);
+    let q = Position::given(line2, column2);
+    pack::written_as_number(write_form(form, p, q, out))
 }

@@ -1,8 +1,7 @@
-// Identifiers through C: `parse_identifier_token` and `is_valid_identifier` on numbers and byte slices.
+// Identifiers through C: `parse_identifier_token` on numbers and byte slices.
 ghost use mathlib.Core.Path.{_≡_};
 ghost use Prim.Native.Nat.{_≤_};
 ghost use lib.ListN.{getD};
-ghost use Rattle.identifier.specs.Valid.{isValidIdentifier};
 ghost use Rattle.numbers.specs.Answer.{returned, answered};
 ghost use Rattle.c_identifier.specs.Row.{listed, rowOf};
 use identifier::Identified;
@@ -59,15 +58,8 @@ pub extern "C" fn stew_parse_identifier_token(
         return 9;
     }
     let place = Position::given(line, column);
-    let scanned = identifier::parse_identifier_token(text, at, place, book);
+    let scanned = identifier_token::parse_identifier_token(text, at, place, book);
     let row = row_of(scanned);
     numbers::write_row(&row, 8, &mut *answer);
     row[0] as u32
-}
-
-#[no_mangle]
-pub extern "C" fn stew_is_valid_identifier(name: &[u8]) -> bool
-    ensures { λ r. ⌜ r ≡ isValidIdentifier (now (name .entry)) ⌝ }
-{
-    identifier::is_valid_identifier(name)
 }

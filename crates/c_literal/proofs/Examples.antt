@@ -2,7 +2,7 @@
 use mathlib.Core.Bool.{false}
 use mathlib.Core.List.{[], _∷_}
 use mathlib.Core.Path.{_≡_, refl}
-use Rattle.position.specs.Place.{none, given, isNone, unwrapOr, numbered, lineOf, positionOf}
+use Rattle.position.specs.Place.{none, given, lineNumber, columnNumber}
 use Rattle.chars.specs.Cursors.{cursor}
 use Rattle.fault.specs.Faults.{part, unexpectedInput}
 use Rattle.literal.specs.Told.{told}
@@ -17,5 +17,5 @@ pub record Worked : Type 0 where
       ≡ 5 ∷ 1 ∷ 65537 ∷ 0 ∷ 0 ∷ 0 ∷ 0 ∷ 0 ∷ 65537 ∷ 0 ∷ 1 ∷ []
 
 pub worked : Worked
-unfolding none given isNone unwrapOr numbered lineOf positionOf packed told rowOf
+unfolding none given lineNumber columnNumber packed told rowOf
 worked = record { accepted = refl; refused = refl }

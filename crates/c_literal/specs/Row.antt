@@ -1,19 +1,13 @@
 -- What a scan of a literal tells, as a row of eleven numbers, for the C names; and what such a name leaves.
 use Prim.Native.Nat.{ℕ}
-use mathlib.Core.Bool.{Bool}
 use mathlib.Core.List.{List, [], _∷_}
 use mathlib.Core.Path.{_≡_}
-use Rattle.basis.specs.Pick.{pick}
 use Rattle.literal.specs.Cut.{wrote}
 use Rattle.literal.specs.Told.{Told, told}
 use Rattle.literal.specs.Trace.{Trace}
 use Rattle.literal.specs.declared.Scanned.{Scanned}
-use Rattle.numbers.specs.Answer.{returned, answered, beside}
+use Rattle.numbers.specs.Answer.{flag, returned, answered, beside}
 use Rattle.pack.specs.Numbers.{packed}
-
--- yes is 1, and no is 0
-abbrev pub flag : Bool → ℕ
-flag b = pick b 1 0
 
 -- the number; the offset, the position reached, the first place; the record's character and its count; the body's length; whether `${` ended it; the fault's place, and the offset and length of its part
 abbrev pub listed : Told → List ℕ

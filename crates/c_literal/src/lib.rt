@@ -3,20 +3,11 @@ ghost use mathlib.Core.Path.{_≡_};
 ghost use Prim.Native.Nat.{_≤_};
 ghost use lib.ListN.{getD};
 ghost use Rattle.numbers.specs.Answer.{returned, answered};
-ghost use Rattle.c_literal.specs.Row.{flag, rowOf};
+ghost use Rattle.c_literal.specs.Row.{rowOf};
 use literal::Scanned;
 
-fn flag(b: bool) -> u64
-    ensures { λ r. ⌜ r ≡ flag b ⌝ }
-{
-    if b {
-        return 1;
-    }
-    0
-}
-
 // The number comes first: it is small, so that a caller can cast it.
-pub fn row_of(s: Scanned) -> [u64; 11]
+fn row_of(s: Scanned) -> [u64; 11]
     ensures { λ r. ⌜ (r ≡ rowOf s) × (getD r 0 0 ≤ 255) ⌝ }
 {
     match s {
@@ -31,7 +22,7 @@ pub fn row_of(s: Scanned) -> [u64; 11]
                 on_record.c as u64,
                 on_record.times as u64,
                 len as u64,
-                flag(end.interpolated),
+                end.interpolated as u64,
                 0,
                 0,
                 0,

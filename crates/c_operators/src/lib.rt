@@ -1,72 +1,33 @@
-// C names of the questions that the source asks of a token, which goes in as its number.
+// C name of the questions that the source asks of a token, which goes in as its number.
 ghost use mathlib.Core.Path.{_≡_};
-ghost use Rattle.assignments.specs.Assignments.{isOpAssignment, hasOpAssignment, baseOpOf, opAssignmentOf};
-ghost use Rattle.kinds.specs.Kinds.{isLiteral, isStandardSymbol, isStandardKeyword};
-ghost use Rattle.pack.specs.Numbers.{lookupAsNumber};
-ghost use Rattle.precedence.specs.Precedence.{precedenceOf, isBindRight};
+ghost use Rattle.numbers.specs.Answer.{fitted, answered};
+ghost use Rattle.c_operators.specs.Row.{rowOf};
 
-// A precedence, or 0 for none.
-#[no_mangle]
-pub extern "C" fn stew_precedence(token: u8) -> u8
-    ensures { λ r. ⌜ r ≡ precedenceOf token ⌝ }
+fn row_of(token: u8) -> [u64; 9]
+    ensures { λ r. ⌜ r ≡ rowOf token ⌝ }
 {
-    precedence::precedence(token)
+    [
+        precedence::precedence(token) as u64,
+        pack::lookup_as_number(assignments::get_base_op_from_assignment(token)),
+        pack::lookup_as_number(assignments::convert_to_op_assignment(token)),
+        precedence::is_bind_right(token) as u64,
+        assignments::is_op_assignment(token) as u64,
+        assignments::has_op_assignment(token) as u64,
+        kinds::is_literal(token) as u64,
+        kinds::is_standard_symbol(token) as u64,
+        kinds::is_standard_keyword(token) as u64,
+    ]
 }
 
-// A token, or 256 for none.
+// The row: the precedence, or 0; the operator of an assignment and the assignment of an operator, or 256; six tests.
 #[no_mangle]
-pub extern "C" fn stew_get_base_op_from_assignment(token: u8) -> u64
-    ensures { λ r. ⌜ r ≡ lookupAsNumber (baseOpOf token) ⌝ }
+pub extern "C" fn stew_operators(token: u8, answer: &mut [u8]) -> u32
+    ensures { λ r. ⌜ r ≡ fitted (rowOf token) (now (answer .entry)) ⌝ }
+    ensures { λ r. ⌜ now (answer .exit) ≡ answered (rowOf token) (now (answer .entry)) ⌝ }
 {
-    pack::lookup_as_number(assignments::get_base_op_from_assignment(token))
-}
-
-// A token, or 256 for none.
-#[no_mangle]
-pub extern "C" fn stew_convert_to_op_assignment(token: u8) -> u64
-    ensures { λ r. ⌜ r ≡ lookupAsNumber (opAssignmentOf token) ⌝ }
-{
-    pack::lookup_as_number(assignments::convert_to_op_assignment(token))
-}
-
-#[no_mangle]
-pub extern "C" fn stew_is_bind_right(token: u8) -> bool
-    ensures { λ r. ⌜ r ≡ isBindRight token ⌝ }
-{
-    precedence::is_bind_right(token)
-}
-
-#[no_mangle]
-pub extern "C" fn stew_is_op_assignment(token: u8) -> bool
-    ensures { λ r. ⌜ r ≡ isOpAssignment token ⌝ }
-{
-    assignments::is_op_assignment(token)
-}
-
-#[no_mangle]
-pub extern "C" fn stew_has_op_assignment(token: u8) -> bool
-    ensures { λ r. ⌜ r ≡ hasOpAssignment token ⌝ }
-{
-    assignments::has_op_assignment(token)
-}
-
-#[no_mangle]
-pub extern "C" fn stew_is_literal(token: u8) -> bool
-    ensures { λ r. ⌜ r ≡ isLiteral token ⌝ }
-{
-    kinds::is_literal(token)
-}
-
-#[no_mangle]
-pub extern "C" fn stew_is_standard_symbol(token: u8) -> bool
-    ensures { λ r. ⌜ r ≡ isStandardSymbol token ⌝ }
-{
-    kinds::is_standard_symbol(token)
-}
-
-#[no_mangle]
-pub extern "C" fn stew_is_standard_keyword(token: u8) -> bool
-    ensures { λ r. ⌜ r ≡ isStandardKeyword token ⌝ }
-{
-    kinds::is_standard_keyword(token)
+    if answer.len() < 72 {
+        return 9;
+    }
+    numbers::write_row(&row_of(token), 8, answer);
+    0
 }

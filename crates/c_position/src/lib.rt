@@ -1,61 +1,92 @@
-// C names of the type Position: a place goes in as a line and a column, and comes out packed.
+// C names of the places: they go in as a line and a column each, and what the source says of them comes out as a row.
 ghost use mathlib.Core.Path.{_≡_};
-ghost use Rattle.pack.specs.Numbers.{packed, placedAsNumber, coordinateAsNumber};
-ghost use Rattle.position.specs.Place.{given, newOf, lineOf, positionOf, beginsLine, isNone, orElse};
-ghost use Rattle.sum.specs.Sum.{sumOf};
+ghost use Rattle.numbers.specs.Answer.{fitted, answered};
+ghost use Rattle.c_position.specs.Numbers.{placedAsNumber, coordinateAsNumber};
+ghost use Rattle.c_position.specs.Rows.{placeRow, pairRow, placesRow};
+use coordinates::Coordinate;
+use coordinates::Placed;
 use position::Position;
+use span::Span;
 
 // A place, packed, or its refusal times 2^32.
-#[no_mangle]
-pub extern "C" fn stew_position_new(line: u16, column: u16) -> u64
-    ensures { λ r. ⌜ r ≡ placedAsNumber (newOf line column) ⌝ }
+fn placed_as_number(a: Placed) -> u64
+    ensures { λ r. ⌜ r ≡ placedAsNumber a ⌝ }
 {
-    pack::placed_as_number(Position::new(line, column))
+    match a {
+        Placed::At(p) => pack::pack(p),
+        Placed::Refused(n) => n as u64 * 4294967296,
+    }
 }
 
-// A line, or 2^32 for none.
-#[no_mangle]
-pub extern "C" fn stew_position_line(line: u16, column: u16) -> u64
-    ensures { λ r. ⌜ r ≡ coordinateAsNumber (lineOf (given line column)) ⌝ }
+// A line or a column, or 2^32 for none.
+fn coordinate_as_number(c: Coordinate) -> u64
+    ensures { λ r. ⌜ r ≡ coordinateAsNumber c ⌝ }
 {
-    pack::coordinate_as_number(Position::given(line, column).line())
+    match c {
+        Coordinate::Some(n) => n as u64,
+        Coordinate::None => 4294967296,
+    }
 }
 
-// A column, or 2^32 for none.
-#[no_mangle]
-pub extern "C" fn stew_position_position(line: u16, column: u16) -> u64
-    ensures { λ r. ⌜ r ≡ coordinateAsNumber (positionOf (given line column)) ⌝ }
+fn place_row(line: u16, column: u16) -> [u64; 8]
+    ensures { λ r. ⌜ r ≡ placeRow line column ⌝ }
 {
-    pack::coordinate_as_number(Position::given(line, column).position())
+    let p = Position::given(line, column);
+    [
+        placed_as_number(coordinates::new(line, column)),
+        coordinate_as_number(coordinates::line(p)),
+        coordinate_as_number(coordinates::position(p)),
+        p.is_beginning_of_line() as u64,
+        p.is_none() as u64,
+        placed_as_number(moves::advance(p)),
+        placed_as_number(moves::rewind(p)),
+        placed_as_number(moves::new_line(p)),
+    ]
 }
 
-#[no_mangle]
-pub extern "C" fn stew_position_is_beginning_of_line(line: u16, column: u16) -> bool
-    ensures { λ r. ⌜ r ≡ beginsLine (given line column) ⌝ }
+fn pair_row(p: Position, q: Position) -> [u64; 5]
+    ensures { λ r. ⌜ r ≡ pairRow p q ⌝ }
 {
-    Position::given(line, column).is_beginning_of_line()
+    let span = Span::new(p, q);
+    [
+        pack::pack(p.or_else(q)),
+        placed_as_number(sum::sum(p, q)),
+        pack::pack(span.start()),
+        pack::pack(span.end()),
+        span.is_none() as u64,
+    ]
 }
 
+// The row of a place: new; line, position, is_beginning_of_line, is_none; advance, rewind, new_line.
 #[no_mangle]
-pub extern "C" fn stew_position_is_none(line: u16, column: u16) -> bool
-    ensures { λ r. ⌜ r ≡ isNone (given line column) ⌝ }
+pub extern "C" fn stew_place(line: u16, column: u16, answer: &mut [u8]) -> u32
+    ensures { λ r. ⌜ r ≡ fitted (placeRow line column) (now (answer .entry)) ⌝ }
+    ensures { λ r. ⌜ now (answer .exit) ≡ answered (placeRow line column) (now (answer .entry)) ⌝ }
 {
-    Position::given(line, column).is_none()
+    if answer.len() < 64 {
+        return 9;
+    }
+    numbers::write_row(&place_row(line, column), 8, answer);
+    0
 }
 
-// A place, packed.
+// The row of two places: or_else, sum; start, end and is_none of the span between them.
 #[no_mangle]
-pub extern "C" fn stew_position_or_else(line: u16, column: u16, line2: u16, column2: u16) -> u64
-    ensures { λ r. ⌜ r ≡ packed (orElse (given line column) (given line2 column2)) ⌝ }
+pub extern "C" fn stew_places(
+    line: u16,
+    column: u16,
+    line2: u16,
+    column2: u16,
+    answer: &mut [u8],
+) -> u32
+    ensures { λ r. ⌜ r ≡ fitted (placesRow line column line2 column2) (now (answer .entry)) ⌝ }
+    ensures { λ r. ⌜ now (answer .exit) ≡ answered (placesRow line column line2 column2) (now (answer .entry)) ⌝ }
 {
-    pack::pack(Position::given(line, column).or_else(Position::given(line2, column2)))
-}
-
-// A place, packed, or its refusal times 2^32.
-#[no_mangle]
-pub extern "C" fn stew_position_sum(line: u16, column: u16, line2: u16, column2: u16) -> u64
-    ensures { λ r. ⌜ r ≡ placedAsNumber (sumOf (given line column) (given line2 column2)) ⌝ }
-{
-    let other = Position::given(line2, column2);
-    pack::placed_as_number(sum::sum(Position::given(line, column), other))
+    if answer.len() < 40 {
+        return 9;
+    }
+    let p = Position::given(line, column);
+    let q = Position::given(line2, column2);
+    numbers::write_row(&pair_row(p, q), 8, answer);
+    0
 }

@@ -7,7 +7,7 @@ use lib.ListN.{length, getD}
 use borrow.Author.Tests.{lt-ltb, le-ltb}
 use Rattle.lent.proofs.Writes.{untouched}
 use Rattle.numbers.specs.Spell.{spelled}
-use Rattle.numbers.specs.Answer.{short, returned, answered, beside}
+use Rattle.numbers.specs.Answer.{short, returned, fitted, answered, beside}
 use Rattle.numbers.proofs.Rows.{length-spelled}
 
 module _ (n : ℕ) (row memory : List ℕ) (e : length row ≡ n) where
@@ -24,6 +24,10 @@ module _ (n : ℕ) (row memory : List ℕ) (e : length row ≡ n) where
     unfolding returned
     short-returns = rw is-short
 
+    pub short-fitted : 9 ≡ fitted row memory
+    unfolding fitted
+    short-fitted = rw is-short
+
     pub short-leaves : memory ≡ answered row memory
     short-leaves = sym (untouched (spelled 8 row) memory (rw long h))
 
@@ -39,6 +43,10 @@ module _ (n : ℕ) (row memory : List ℕ) (e : length row ≡ n) where
     pub long-returns : getD row 0 0 ≡ returned row memory
     unfolding returned
     long-returns = rw not-short
+
+    pub long-fitted : 0 ≡ fitted row memory
+    unfolding fitted
+    long-fitted = rw not-short
 
     pub long-beside : (old new : List ℕ) → new ≡ beside row memory old new
     unfolding beside

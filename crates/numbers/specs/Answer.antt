@@ -1,12 +1,17 @@
 -- A C name that answers by a row of numbers, 8 bytes each, in lent memory: where that is shorter than the row, nothing is written anywhere and 9 is returned.
 use Prim.Native.Nat.{ℕ}
-use mathlib.Core.Bool.{Bool}
+use mathlib.Core.Bool.{Bool, true, false}
 use mathlib.Core.List.{List}
 use lib.Dec.{ltb}
 use lib.ListN.{length, getD}
 use Rattle.basis.specs.Pick.{pick}
 use Rattle.lent.specs.Written.{leftOf}
 use Rattle.numbers.specs.Spell.{spelled}
+
+-- a truth value as a number: yes is 1, and no is 0
+abbrev pub flag : Bool → ℕ
+flag false = 0
+flag true = 1
 
 -- the memory is shorter than the row
 unfoldable pub short : List ℕ → List ℕ → Bool
@@ -15,6 +20,10 @@ short row memory = ltb (length memory) (length (spelled 8 row))
 -- what is returned: the row's first number, or 9
 unfoldable pub returned : List ℕ → List ℕ → ℕ
 returned row memory = pick (short row memory) 9 (getD row 0 0)
+
+-- what is returned where the row has no number of its own: 0, or 9
+unfoldable pub fitted : List ℕ → List ℕ → ℕ
+fitted row memory = pick (short row memory) 9 0
 
 -- what the memory holds then: the row in front and the old rest, or what it held
 abbrev pub answered : List ℕ → List ℕ → List ℕ

@@ -1,9 +1,7 @@
 // How an answer crosses a C name: as one number.
 ghost use mathlib.Core.Path.{_≡_};
-ghost use Rattle.pack.specs.Numbers.{packed, placedAsNumber, coordinateAsNumber, lookupAsNumber, writtenAsNumber};
+ghost use Rattle.pack.specs.Numbers.{packed, lookupAsNumber, writtenAsNumber};
 use lent::Written;
-use position::Coordinate;
-use position::Placed;
 use position::Position;
 use token::Lookup;
 
@@ -11,29 +9,9 @@ use token::Lookup;
 pub fn pack(p: Position) -> u64
     ensures { λ r. ⌜ r ≡ packed p ⌝ }
 {
-    let line = p.line().unwrap_or(0) as u64;
-    let column = p.position().unwrap_or(0) as u64;
+    let line = p.line_number() as u64;
+    let column = p.column_number() as u64;
     line * 65536 + column
-}
-
-// A place, or a refusal.
-pub fn placed_as_number(a: Placed) -> u64
-    ensures { λ r. ⌜ r ≡ placedAsNumber a ⌝ }
-{
-    match a {
-        Placed::At(p) => pack(p),
-        Placed::Refused(n) => n as u64 * 4294967296,
-    }
-}
-
-// A line or a column, or none.
-pub fn coordinate_as_number(c: Coordinate) -> u64
-    ensures { λ r. ⌜ r ≡ coordinateAsNumber c ⌝ }
-{
-    match c {
-        Coordinate::Some(n) => n as u64,
-        Coordinate::None => 4294967296,
-    }
 }
 
 // A token, or none.

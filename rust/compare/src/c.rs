@@ -2,56 +2,43 @@
 //!
 //! A slice crosses as a pointer and a length: `&[u8]` is `*const u8, usize` here, `&mut [u8]` is
 //! `*mut u8, usize`, each pair where the slice stands among the parameters. Numbers and truth
-//! values cross as they are. Each name has one safe function over it that lends its slices whole.
+//! values cross as they are. A safe function over each name lends its slices whole.
 //!
 //! A number that stands for a place, a length or a token comes out as such. One that stands for
 //! none of them is kept as it is, so that it equals no right answer.
 
 use crate::place::Place;
+use crate::reading::Scan;
 use crate::start::Start;
 
 extern "C" {
-    fn stew_position_new(line: u16, column: u16) -> u64;
-    fn stew_position_line(line: u16, column: u16) -> u64;
-    fn stew_position_position(line: u16, column: u16) -> u64;
-    fn stew_position_is_beginning_of_line(line: u16, column: u16) -> bool;
-    fn stew_position_is_none(line: u16, column: u16) -> bool;
-    fn stew_position_or_else(line: u16, column: u16, other_line: u16, other_column: u16) -> u64;
-    fn stew_position_sum(line: u16, column: u16, other_line: u16, other_column: u16) -> u64;
-
-    fn stew_position_advance(line: u16, column: u16) -> u64;
-    fn stew_position_rewind(line: u16, column: u16) -> u64;
-    fn stew_position_new_line(line: u16, column: u16) -> u64;
-
-    fn stew_span_start(line: u16, column: u16, end_line: u16, end_column: u16) -> u64;
-    fn stew_span_end(line: u16, column: u16, end_line: u16, end_column: u16) -> u64;
-    fn stew_span_is_none(line: u16, column: u16, end_line: u16, end_column: u16) -> bool;
-
-    fn stew_position_display(line: u16, column: u16, out: *mut u8, room: usize) -> u64;
-    fn stew_position_debug(line: u16, column: u16, out: *mut u8, room: usize) -> u64;
-    fn stew_span_display(
+    fn stew_place(line: u16, column: u16, answer: *mut u8, answer_room: usize) -> u32;
+    fn stew_places(
         line: u16,
         column: u16,
-        end_line: u16,
-        end_column: u16,
+        other_line: u16,
+        other_column: u16,
+        answer: *mut u8,
+        answer_room: usize,
+    ) -> u32;
+
+    fn stew_display(
+        form: u8,
+        line: u16,
+        column: u16,
+        other_line: u16,
+        other_column: u16,
         out: *mut u8,
         room: usize,
     ) -> u64;
 
+    fn stew_operators(token: u8, answer: *mut u8, answer_room: usize) -> u32;
+
     fn stew_lookup_symbol_from_syntax(text: *const u8, length: usize) -> u64;
     fn stew_literal_syntax(token: u8, out: *mut u8, room: usize) -> u64;
-
-    fn stew_precedence(token: u8) -> u8;
-    fn stew_get_base_op_from_assignment(token: u8) -> u64;
-    fn stew_convert_to_op_assignment(token: u8) -> u64;
-    fn stew_is_bind_right(token: u8) -> bool;
-    fn stew_is_op_assignment(token: u8) -> bool;
-    fn stew_has_op_assignment(token: u8) -> bool;
-    fn stew_is_literal(token: u8) -> bool;
-    fn stew_is_standard_symbol(token: u8) -> bool;
-    fn stew_is_standard_keyword(token: u8) -> bool;
-
     fn stew_is_valid_identifier(name: *const u8, length: usize) -> bool;
+    fn stew_is_doc_comment(comment: *const u8, length: usize) -> bool;
+
     fn stew_parse_identifier_token(
         text: *const u8,
         length: usize,
@@ -74,7 +61,6 @@ extern "C" {
         answer: *mut u8,
         answer_room: usize,
     ) -> u32;
-    fn stew_is_doc_comment(comment: *const u8, length: usize) -> bool;
 
     fn stew_parse_raw_string_literal(
         text: *const u8,
@@ -143,7 +129,7 @@ fn accepted(number: u64) -> Result<u64, u64> {
     }
 }
 
-fn placed(number: u64) -> Result<Place, u64> {
+pub fn placed(number: u64) -> Result<Place, u64> {
     accepted(number).map(|packed| ((packed >> 16) as u16, packed as u16))
 }
 
@@ -151,117 +137,52 @@ fn unless(none: u64, number: u64) -> Option<u64> {
     Some(number).filter(|&number| number != none)
 }
 
-pub fn position_new(place: Place) -> Result<Place, u64> {
-    placed(unsafe { stew_position_new(place.0, place.1) })
+pub fn coordinate(number: u64) -> Option<u64> {
+    unless(REFUSED, number)
 }
 
-pub fn position_line(place: Place) -> Option<u64> {
-    unless(REFUSED, unsafe { stew_position_line(place.0, place.1) })
+pub fn token(number: u64) -> Option<u64> {
+    unless(NO_TOKEN, number)
 }
 
-pub fn position_position(place: Place) -> Option<u64> {
-    unless(REFUSED, unsafe { stew_position_position(place.0, place.1) })
+pub fn place(at: Place, answer: &mut [u8]) -> u32 {
+    unsafe { stew_place(at.0, at.1, answer.as_mut_ptr(), answer.len()) }
 }
 
-pub fn position_is_beginning_of_line(place: Place) -> bool {
-    unsafe { stew_position_is_beginning_of_line(place.0, place.1) }
+pub fn places(at: Place, to: Place, answer: &mut [u8]) -> u32 {
+    let (answer, room) = (answer.as_mut_ptr(), answer.len());
+    unsafe { stew_places(at.0, at.1, to.0, to.1, answer, room) }
 }
 
-pub fn position_is_none(place: Place) -> bool {
-    unsafe { stew_position_is_none(place.0, place.1) }
+fn display(form: u8, at: Place, to: Place, out: &mut [u8]) -> Result<u64, u64> {
+    let (out, room) = (out.as_mut_ptr(), out.len());
+    accepted(unsafe { stew_display(form, at.0, at.1, to.0, to.1, out, room) })
 }
 
-pub fn position_or_else(place: Place, other: Place) -> Result<Place, u64> {
-    placed(unsafe { stew_position_or_else(place.0, place.1, other.0, other.1) })
-}
-
-pub fn position_sum(left: Place, right: Place) -> Result<Place, u64> {
-    placed(unsafe { stew_position_sum(left.0, left.1, right.0, right.1) })
-}
-
-pub fn position_advance(place: Place) -> Result<Place, u64> {
-    placed(unsafe { stew_position_advance(place.0, place.1) })
-}
-
-pub fn position_rewind(place: Place) -> Result<Place, u64> {
-    placed(unsafe { stew_position_rewind(place.0, place.1) })
-}
-
-pub fn position_new_line(place: Place) -> Result<Place, u64> {
-    placed(unsafe { stew_position_new_line(place.0, place.1) })
-}
-
-pub fn span_start(start: Place, end: Place) -> Result<Place, u64> {
-    placed(unsafe { stew_span_start(start.0, start.1, end.0, end.1) })
-}
-
-pub fn span_end(start: Place, end: Place) -> Result<Place, u64> {
-    placed(unsafe { stew_span_end(start.0, start.1, end.0, end.1) })
-}
-
-pub fn span_is_none(start: Place, end: Place) -> bool {
-    unsafe { stew_span_is_none(start.0, start.1, end.0, end.1) }
-}
-
+/// The second place is not looked at.
 pub fn position_display(place: Place, out: &mut [u8]) -> Result<u64, u64> {
-    let (out, room) = (out.as_mut_ptr(), out.len());
-    accepted(unsafe { stew_position_display(place.0, place.1, out, room) })
+    display(0, place, (0, 0), out)
 }
 
+/// The second place is not looked at.
 pub fn position_debug(place: Place, out: &mut [u8]) -> Result<u64, u64> {
-    let (out, room) = (out.as_mut_ptr(), out.len());
-    accepted(unsafe { stew_position_debug(place.0, place.1, out, room) })
+    display(1, place, (0, 0), out)
 }
 
 pub fn span_display(start: Place, end: Place, out: &mut [u8]) -> Result<u64, u64> {
-    let (out, room) = (out.as_mut_ptr(), out.len());
-    accepted(unsafe { stew_span_display(start.0, start.1, end.0, end.1, out, room) })
+    display(2, start, end, out)
+}
+
+pub fn operators(token: u8, answer: &mut [u8]) -> u32 {
+    unsafe { stew_operators(token, answer.as_mut_ptr(), answer.len()) }
 }
 
 pub fn lookup_symbol_from_syntax(text: &[u8]) -> Option<u64> {
-    let number = unsafe { stew_lookup_symbol_from_syntax(text.as_ptr(), text.len()) };
-    unless(NO_TOKEN, number)
+    token(unsafe { stew_lookup_symbol_from_syntax(text.as_ptr(), text.len()) })
 }
 
 pub fn literal_syntax(token: u8, out: &mut [u8]) -> Result<u64, u64> {
     accepted(unsafe { stew_literal_syntax(token, out.as_mut_ptr(), out.len()) })
-}
-
-/// 0 for none.
-pub fn precedence(token: u8) -> u8 {
-    unsafe { stew_precedence(token) }
-}
-
-pub fn get_base_op_from_assignment(token: u8) -> Option<u64> {
-    unless(NO_TOKEN, unsafe { stew_get_base_op_from_assignment(token) })
-}
-
-pub fn convert_to_op_assignment(token: u8) -> Option<u64> {
-    unless(NO_TOKEN, unsafe { stew_convert_to_op_assignment(token) })
-}
-
-pub fn is_bind_right(token: u8) -> bool {
-    unsafe { stew_is_bind_right(token) }
-}
-
-pub fn is_op_assignment(token: u8) -> bool {
-    unsafe { stew_is_op_assignment(token) }
-}
-
-pub fn has_op_assignment(token: u8) -> bool {
-    unsafe { stew_has_op_assignment(token) }
-}
-
-pub fn is_literal(token: u8) -> bool {
-    unsafe { stew_is_literal(token) }
-}
-
-pub fn is_standard_symbol(token: u8) -> bool {
-    unsafe { stew_is_standard_symbol(token) }
-}
-
-pub fn is_standard_keyword(token: u8) -> bool {
-    unsafe { stew_is_standard_keyword(token) }
 }
 
 pub fn is_valid_identifier(name: &[u8]) -> bool {
@@ -303,73 +224,33 @@ pub fn scan_block_comment(start: Start, level: usize, answer: &mut [u8]) -> u32 
     }
 }
 
-pub fn parse_raw_string_literal(
+pub fn scan_literal(
+    scan: Scan,
     start: Start,
     limit: usize,
     out: &mut [u8],
     answer: &mut [u8],
 ) -> u32 {
-    unsafe {
-        stew_parse_raw_string_literal(
-            start.text.as_ptr(),
-            start.text.len(),
-            start.at,
-            start.place.0,
-            start.place.1,
-            limit,
-            out.as_mut_ptr(),
-            out.len(),
-            answer.as_mut_ptr(),
-            answer.len(),
-        )
-    }
-}
-
-pub fn resume_raw_string_literal(
-    start: Start,
-    hashes: usize,
-    limit: usize,
-    out: &mut [u8],
-    answer: &mut [u8],
-) -> u32 {
-    unsafe {
-        stew_resume_raw_string_literal(
-            start.text.as_ptr(),
-            start.text.len(),
-            start.at,
-            start.place.0,
-            start.place.1,
-            hashes,
-            limit,
-            out.as_mut_ptr(),
-            out.len(),
-            answer.as_mut_ptr(),
-            answer.len(),
-        )
-    }
-}
-
-pub fn parse_string_literal(
-    start: Start,
-    terminator: u32,
-    limit: usize,
-    out: &mut [u8],
-    answer: &mut [u8],
-) -> u32 {
-    unsafe {
-        stew_parse_string_literal(
-            start.text.as_ptr(),
-            start.text.len(),
-            start.at,
-            start.place.0,
-            start.place.1,
-            terminator,
-            limit,
-            out.as_mut_ptr(),
-            out.len(),
-            answer.as_mut_ptr(),
-            answer.len(),
-        )
+    let (text, length) = (start.text.as_ptr(), start.text.len());
+    let (at, (line, column)) = (start.at, start.place);
+    let (out, room) = (out.as_mut_ptr(), out.len());
+    let (row, row_room) = (answer.as_mut_ptr(), answer.len());
+    match scan {
+        Scan::Raw => unsafe {
+            stew_parse_raw_string_literal(
+                text, length, at, line, column, limit, out, room, row, row_room,
+            )
+        },
+        Scan::Resumed(hashes) => unsafe {
+            stew_resume_raw_string_literal(
+                text, length, at, line, column, hashes, limit, out, room, row, row_room,
+            )
+        },
+        Scan::String(terminator) => unsafe {
+            stew_parse_string_literal(
+                text, length, at, line, column, terminator, limit, out, room, row, row_room,
+            )
+        },
     }
 }
 
@@ -396,8 +277,11 @@ mod tests {
         assert_eq!(placed(REFUSED - 1), Ok((65535, 65535)));
         assert_eq!(placed(15 * REFUSED), Err(15));
         assert_eq!(placed(15 * REFUSED + 1), Err(15 * REFUSED + 1));
-        assert_eq!(unless(NO_TOKEN, 255), Some(255));
-        assert_eq!(unless(NO_TOKEN, 256), None);
-        assert_eq!(unless(NO_TOKEN, 257), Some(257));
+        assert_eq!(placed(u64::MAX), Err(u64::MAX));
+        assert_eq!(coordinate(65535), Some(65535));
+        assert_eq!(coordinate(REFUSED), None);
+        assert_eq!(token(255), Some(255));
+        assert_eq!(token(256), None);
+        assert_eq!(token(257), Some(257));
     }
 }

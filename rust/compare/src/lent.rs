@@ -151,6 +151,17 @@ impl<T> Told<T> {
     }
 }
 
+/// The row of a function that returns 0 for it. Where it returns another number, or writes behind
+/// its row, every number is one that stands for nothing.
+pub fn row<T, const N: usize>(ask: impl FnOnce(&mut [u8]) -> u32) -> T
+where
+    T: From<[u64; N]>,
+{
+    let told = Told::<[u64; N]>::by(ask);
+    let is_right = told == Told::right(0, told.row);
+    T::from(if is_right { told.row } else { [u64::MAX; N] })
+}
+
 /// Compares what a function does where its answer is too short for its row of `numbers`: it
 /// returns 9, and writes nothing. The Rust has no such answers.
 ///
@@ -238,6 +249,19 @@ mod tests {
             0
         });
         assert_ne!(passed, Told::right(0, [0]));
+    }
+
+    #[test]
+    fn a_row_is_told_with_0_and_within_its_bytes() {
+        let filled = |length: usize, returned| -> [u64; 1] {
+            row(|answer| {
+                answer[..length].fill(0);
+                returned
+            })
+        };
+        assert_eq!(filled(8, 0), [0]);
+        assert_eq!(filled(8, 9), [u64::MAX]);
+        assert_eq!(filled(9, 0), [u64::MAX]);
     }
 
     #[test]

@@ -2,7 +2,7 @@
 //! theirs to, and the report.
 
 pub mod book;
-#[cfg(stew_archive)]
+#[cfg(all(rhai_source, stew_archive))]
 pub mod c;
 #[cfg(all(rhai_source, stew_archive))]
 pub mod comment;

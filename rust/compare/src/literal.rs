@@ -164,12 +164,7 @@ impl Question<'_> {
     }
 
     fn ask(&self, out: &mut [u8], answer: &mut [u8]) -> u32 {
-        let Self { start, limit, .. } = *self;
-        match self.scan {
-            Scan::Raw => c::parse_raw_string_literal(start, limit, out, answer),
-            Scan::Resumed(k) => c::resume_raw_string_literal(start, k, limit, out, answer),
-            Scan::String(q) => c::parse_string_literal(start, q, limit, out, answer),
-        }
+        c::scan_literal(self.scan, self.start, self.limit, out, answer)
     }
 }
 

@@ -1,7 +1,7 @@
 //! `Position` and `Span`: every function at the edges and at random, every form in every room.
 
 use crate::c;
-use crate::lent::compare_written;
+use crate::lent::{compare_short_answers, compare_written, row};
 use crate::place::{edges, Place};
 use crate::random::Random;
 use crate::report::{Case, Report};
@@ -24,6 +24,12 @@ pub fn run(report: &mut Report, size: Size) {
         one_place(report, place);
         two_places(report, place, random_place(&mut random));
     }
+
+    let at = (3, 7);
+    compare_short_answers(report, "place", 8, |answer| (c::place(at, answer), true));
+    compare_short_answers(report, "places", 5, |answer| {
+        (c::places(at, at, answer), true)
+    });
 }
 
 /// Numbers of every length come equally often.
@@ -32,33 +38,56 @@ fn random_place(random: &mut Random) -> Place {
     (number(), number())
 }
 
-type Move = (
-    &'static str,
-    fn(Place) -> Asked,
-    fn(Place) -> Option<Place>,
-    fn(Place) -> Result<Place, u64>,
-);
+/// What is told of a place, field by field as it crosses.
+struct OfOne {
+    /// In the order of `MOVES`.
+    moves: [Result<Place, u64>; 4],
+    line: Option<u64>,
+    position: Option<u64>,
+    is_beginning_of_line: u64,
+    is_none: u64,
+}
+
+impl From<[u64; 8]> for OfOne {
+    fn from(row: [u64; 8]) -> Self {
+        Self {
+            moves: [row[0], row[5], row[6], row[7]].map(c::placed),
+            line: c::coordinate(row[1]),
+            position: c::coordinate(row[2]),
+            is_beginning_of_line: row[3],
+            is_none: row[4],
+        }
+    }
+}
+
+/// What is told of two places, and of the span between them.
+struct OfTwo {
+    or_else: Result<Place, u64>,
+    sum: Result<Place, u64>,
+    start: Result<Place, u64>,
+    end: Result<Place, u64>,
+    is_none: u64,
+}
+
+impl From<[u64; 5]> for OfTwo {
+    fn from([or_else, sum, start, end, is_none]: [u64; 5]) -> Self {
+        Self {
+            or_else: c::placed(or_else),
+            sum: c::placed(sum),
+            start: c::placed(start),
+            end: c::placed(end),
+            is_none,
+        }
+    }
+}
+
+type Move = (&'static str, fn(Place) -> Asked, fn(Place) -> Option<Place>);
 
 const MOVES: [Move; 4] = [
-    ("position_new", Asked::New, new, c::position_new),
-    (
-        "position_advance",
-        Asked::Advance,
-        rust::advance,
-        c::position_advance,
-    ),
-    (
-        "position_rewind",
-        Asked::Rewind,
-        rust::rewind,
-        c::position_rewind,
-    ),
-    (
-        "position_new_line",
-        Asked::NewLine,
-        rust::new_line,
-        c::position_new_line,
-    ),
+    ("position_new", Asked::New, new),
+    ("position_advance", Asked::Advance, rust::advance),
+    ("position_rewind", Asked::Rewind, rust::rewind),
+    ("position_new_line", Asked::NewLine, rust::new_line),
 ];
 
 fn new((line, column): Place) -> Option<Place> {
@@ -77,41 +106,38 @@ const FORMS: [Form; 2] = [
 ];
 
 fn one_place(report: &mut Report, at: Place) {
-    for (name, asked, rust, ours) in MOVES {
-        placed(report, name, asked(at), rust(at), ours(at));
+    let ours: OfOne = row(|answer| c::place(at, answer));
+    for ((name, asked, rust), ours) in MOVES.into_iter().zip(ours.moves) {
+        placed(report, name, asked(at), rust(at), ours);
     }
     for (name, rust, ours) in FORMS {
         compare_written(report, name, at, Some(&rust(at)), |out| ours(at, out));
     }
     let line = rust::line(at).map(|line| line as u64);
-    report.same("position_line", at, line, c::position_line(at));
+    report.same("position_line", at, line, ours.line);
     let column = rust::position(at).map(|column| column as u64);
-    report.same("position_position", at, column, c::position_position(at));
-    let begins = rust::is_beginning_of_line(at);
-    let ours = c::position_is_beginning_of_line(at);
-    report.same("position_is_beginning_of_line", at, begins, ours);
-    let is_none = rust::is_none(at);
-    report.same("position_is_none", at, is_none, c::position_is_none(at));
+    report.same("position_position", at, column, ours.position);
+    let begins = rust::is_beginning_of_line(at).into();
+    let name = "position_is_beginning_of_line";
+    report.same(name, at, begins, ours.is_beginning_of_line);
+    let is_none = rust::is_none(at).into();
+    report.same("position_is_none", at, is_none, ours.is_none);
 }
 
 fn two_places(report: &mut Report, at: Place, to: Place) {
-    let (sum, ours) = (rust::add(at, to), c::position_sum(at, to));
-    placed(report, "position_sum", Asked::Sum(at, to), sum, ours);
+    let ours: OfTwo = row(|answer| c::places(at, to, answer));
+    let sum = rust::add(at, to);
+    placed(report, "position_sum", Asked::Sum(at, to), sum, ours.sum);
 
     let places = (at, to);
     let other = Ok(rust::or_else(at, to));
-    report.same(
-        "position_or_else",
-        places,
-        other,
-        c::position_or_else(at, to),
-    );
+    report.same("position_or_else", places, other, ours.or_else);
     let start = Ok(rust::span_start(at, to));
-    report.same("span_start", places, start, c::span_start(at, to));
+    report.same("span_start", places, start, ours.start);
     let end = Ok(rust::span_end(at, to));
-    report.same("span_end", places, end, c::span_end(at, to));
-    let is_none = rust::span_is_none(at, to);
-    report.same("span_is_none", places, is_none, c::span_is_none(at, to));
+    report.same("span_end", places, end, ours.end);
+    let is_none = rust::span_is_none(at, to).into();
+    report.same("span_is_none", places, is_none, ours.is_none);
 
     let display = rust::span_display(at, to);
     compare_written(report, "span_display", places, Some(&display), |out| {

@@ -1,7 +1,7 @@
 //! Tokens by their numbers, and words by their texts.
 
 use crate::c;
-use crate::lent::compare_written;
+use crate::lent::{compare_short_answers, compare_written, row};
 use crate::random::Random;
 use crate::report::{Case, Report};
 use crate::size::Size;
@@ -12,60 +12,65 @@ use std::str;
 pub fn run(report: &mut Report, size: Size) {
     for number in 0..=255 {
         operators(report, number);
-        tests(report, number);
         let syntax = rust::literal_syntax(number.into());
         compare_written(report, "literal_syntax", number, syntax, |out| {
             c::literal_syntax(number, out)
         });
     }
+    compare_short_answers(report, "operators", 9, |answer| {
+        (c::operators(0, answer), true)
+    });
     short_texts(report, size);
     near_words(report);
     random_texts(report, size);
 }
 
-fn operators(report: &mut Report, number: u8) {
-    let precedence = rust::precedence(number.into()).unwrap_or(0);
-    report.same("precedence", number, precedence, c::precedence(number));
-
-    let base = rust::get_base_op_from_assignment(number.into()).map(u64::from);
-    let ours = c::get_base_op_from_assignment(number);
-    report.same("get_base_op_from_assignment", number, base, ours);
-
-    let assignment = rust::convert_to_op_assignment(number.into()).map(u64::from);
-    let ours = c::convert_to_op_assignment(number);
-    report.same("convert_to_op_assignment", number, assignment, ours);
+/// What is told of a token, field by field as it crosses.
+struct Operators {
+    precedence: u64,
+    base: Option<u64>,
+    assignment: Option<u64>,
+    /// In the order of `TESTS`.
+    tests: [u64; 6],
 }
 
-type Test = (&'static str, fn(u32) -> bool, fn(u8) -> bool);
+impl From<[u64; 9]> for Operators {
+    fn from([precedence, base, assignment, tests @ ..]: [u64; 9]) -> Self {
+        Self {
+            precedence,
+            base: c::token(base),
+            assignment: c::token(assignment),
+            tests,
+        }
+    }
+}
+
+type Test = (&'static str, fn(u32) -> bool);
 
 const TESTS: [Test; 6] = [
-    ("is_bind_right", rust::is_bind_right, c::is_bind_right),
-    (
-        "is_op_assignment",
-        rust::is_op_assignment,
-        c::is_op_assignment,
-    ),
-    (
-        "has_op_assignment",
-        rust::has_op_assignment,
-        c::has_op_assignment,
-    ),
-    ("is_literal", rust::is_literal, c::is_literal),
-    (
-        "is_standard_symbol",
-        rust::is_standard_symbol,
-        c::is_standard_symbol,
-    ),
-    (
-        "is_standard_keyword",
-        rust::is_standard_keyword,
-        c::is_standard_keyword,
-    ),
+    ("is_bind_right", rust::is_bind_right),
+    ("is_op_assignment", rust::is_op_assignment),
+    ("has_op_assignment", rust::has_op_assignment),
+    ("is_literal", rust::is_literal),
+    ("is_standard_symbol", rust::is_standard_symbol),
+    ("is_standard_keyword", rust::is_standard_keyword),
 ];
 
-fn tests(report: &mut Report, number: u8) {
-    for (name, rust, ours) in TESTS {
-        report.same(name, number, rust(number.into()), ours(number));
+fn operators(report: &mut Report, number: u8) {
+    let ours: Operators = row(|answer| c::operators(number, answer));
+
+    let precedence = rust::precedence(number.into()).unwrap_or(0).into();
+    report.same("precedence", number, precedence, ours.precedence);
+
+    let base = rust::get_base_op_from_assignment(number.into()).map(u64::from);
+    report.same("get_base_op_from_assignment", number, base, ours.base);
+
+    let assignment = rust::convert_to_op_assignment(number.into()).map(u64::from);
+    let name = "convert_to_op_assignment";
+    report.same(name, number, assignment, ours.assignment);
+
+    for ((name, test), ours) in TESTS.into_iter().zip(ours.tests) {
+        report.same(name, number, test(number.into()).into(), ours);
     }
 }
 

@@ -12,7 +12,7 @@ unfolding rowOf told
 returns c =
     let call = c .before .before in
     let known = call .before .before .before .before .before in
-    (rw (known .s .given .1, call .before .pack .ensures, call .pack2 .ensures, c .flag .ensures, worked .no-place), omega arith)
+    (rw (known .s .given .1, call .before .pack .ensures, call .pack2 .ensures, worked .no-place), omega arith)
 
 returns-2 : tie.Need-returns-2
 unfolding rowOf told
@@ -29,7 +29,7 @@ row-of-spec =
     (λ c κs. search needs)
     (λ c κs. search needs)
     (λ c. search needs)
-    (λ c κs. search needs)
+    (λ c. search needs)
     returns
     (λ c. search needs)
     (λ c. search needs)

@@ -1,0 +1,24 @@
+-- The words of the places given are written, and what that answers is told as a number.
+use borrow.Author.Needs.{needs}
+use Rattle.c_display.specs.Forms.{wordsOf}
+use Rattle.c_display.proofs.stew_display.Statement.{statement}
+use Rattle.c_display.proofs.stew_display.Tie as tie
+
+returns : tie.Need-returns
+unfolding wordsOf
+returns c =
+    let call = c .before .before .before in
+    let second = call .before .before in
+    rw (← second .before .given .ensures, ← second .given2 .ensures)
+    (rw (c .written-as-number .ensures, call .write-form .ensures .0), call .write-form .ensures .1)
+
+pub stew-display-spec : {M : Type 1} → statement M
+stew-display-spec =
+    tie.close
+    (tie.spec
+    (λ c κs. search needs)
+    (λ c κs. search needs)
+    (λ c κs. search needs)
+    (λ c κs. search needs)
+    (λ c. search needs)
+    returns)

@@ -1,0 +1,16 @@
+-- Worked examples of the numbers and of the rows, under one theorem. Assumes nothing.
+use mathlib.Core.List.{[], _∷_}
+use mathlib.Core.Path.{_≡_, refl}
+use Rattle.coordinates.specs.declared.Placed.the-variants.{Refused}
+use Rattle.coordinates.specs.declared.Coordinate.the-variants as coordinate
+use Rattle.pack.specs.Numbers.{refusal}
+use Rattle.c_position.specs.Numbers.{placedAsNumber, coordinateAsNumber}
+
+pub record Worked : Type 0 where
+  pub no-sum : placedAsNumber (Refused 15) ≡ 64424509440
+  pub a-column : coordinateAsNumber (coordinate.Some 7) ≡ 7
+  pub no-column : coordinateAsNumber coordinate.None ≡ 4294967296
+
+pub worked : Worked
+unfolding refusal placedAsNumber coordinateAsNumber
+worked = record { no-sum = refl; a-column = refl; no-column = refl }
