@@ -1,7 +1,7 @@
 -- The theorem: every row of the table holds. It is computed from the definitions. Assumes nothing.
 use mathlib.Core.Path.{refl}
 use Rattle.basis.specs.Words.{word}
-use Rattle.position.specs.Place.{none, isNone, up, advanced, lined, rewound, orElse, onLine, beginsLine, unwrapOr, positionOf, numbered}
+use Rattle.position.specs.Place.{none, isNone, up, advanced, lined, rewound, orElse, onLine, beginsLine, columnNumber}
 use Rattle.utf8.specs.Table.{look, lookAt, charsFrom, chars, charsAt, wellFrom, well, edge}
 use Rattle.utf8.specs.Encode.{isScalar, encode, encoded}
 use Rattle.classes.specs.Class.{digitOf}
@@ -16,8 +16,8 @@ use Rattle.string_take.specs.Kinds.{isVerbatim, isContinued, isInterpolated}
 use Rattle.string_take.specs.Endings.{unterminatedAt, malformedAt}
 use Rattle.string_take.specs.Turns.{isEmpty, nextIs, endOf, dollarOf, takeOf}
 use Rattle.string_act.specs.Turns.{columnOf, closeOf, lineFeedOf, escapeOf, addOf, plainOf, otherOf, matchOf, actOf}
-use Rattle.string_scan.specs.Ends.{argumentAt, tooLongAt, fullAt, lastOf}
-use Rattle.string_scan.specs.Scans as StringScan
+use Rattle.string_reading.specs.Ends.{argumentAt, tooLongAt, fullAt, lastOf}
+use Rattle.string_reading.specs.Scans as StringScan
 use Rattle.string.specs.Scans as String
 use Rattle.raw_scan.specs.Raw as RawScan
 use Rattle.raw.specs.Raw as Raw
@@ -28,5 +28,5 @@ use Rattle.comment.specs.Block as Block
 use Rattle.promises.specs.Table.{Checked-examples}
 
 pub checked-examples : Checked-examples
-unfolding word none isNone up advanced lined rewound orElse onLine beginsLine unwrapOr positionOf numbered look lookAt charsFrom chars charsAt wellFrom well edge isScalar encode encoded digitOf isWhite getNextOf eatNextOf doorOf run runAt widths yields bytes passes cut wrote letterOf digitsAfter digitsFrom numberOf escapedOf isVerbatim isContinued isInterpolated unterminatedAt malformedAt isEmpty columnOf nextIs endOf dollarOf takeOf closeOf lineFeedOf escapeOf addOf plainOf otherOf matchOf actOf argumentAt tooLongAt fullAt lastOf StringScan.turnOf StringScan.rule StringScan.begun StringScan.readingOf String.startOf String.argumentOf String.traceOf String.scanOf RawScan.heldBack RawScan.placed RawScan.openingTurn RawScan.readingTurn RawScan.atEnd RawScan.turn RawScan.readOf Raw.traceOf Raw.entersOf Raw.resumesOf Raw.parseTrace Raw.parseOf Raw.resumeTrace Raw.resumeOf writtenOf leftOf fits stored after hashesAhead mostAfterQuote hashesFor literalOf refusesOf rawWriteOf rawLeftOf Block.turn Block.commentOf Block.refusesOf Block.scanBlockCommentOf
+unfolding word none isNone up advanced lined rewound orElse onLine beginsLine columnNumber look lookAt charsFrom chars charsAt wellFrom well edge isScalar encode encoded digitOf isWhite getNextOf eatNextOf doorOf run runAt widths yields bytes passes cut wrote letterOf digitsAfter digitsFrom numberOf escapedOf isVerbatim isContinued isInterpolated unterminatedAt malformedAt isEmpty columnOf nextIs endOf dollarOf takeOf closeOf lineFeedOf escapeOf addOf plainOf otherOf matchOf actOf argumentAt tooLongAt fullAt lastOf StringScan.turnOf StringScan.rule StringScan.begun StringScan.readingOf String.startOf String.argumentOf String.traceOf String.scanOf RawScan.heldBack RawScan.placed RawScan.openingTurn RawScan.readingTurn RawScan.atEnd RawScan.turn RawScan.readOf Raw.traceOf Raw.entersOf Raw.resumesOf Raw.parseTrace Raw.parseOf Raw.resumeTrace Raw.resumeOf writtenOf leftOf fits stored after hashesAhead mostAfterQuote hashesFor literalOf refusesOf rawWriteOf rawLeftOf Block.turn Block.commentOf Block.refusesOf Block.scanBlockCommentOf
 checked-examples = refl

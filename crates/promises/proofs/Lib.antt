@@ -6,3 +6,4 @@ pub mod Standing
 pub mod Shutting
 pub mod Calls
 pub mod Examples
+pub mod LargeBodies

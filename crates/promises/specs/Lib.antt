@@ -2,3 +2,4 @@ pub mod LiteralPlaces
 pub mod RoundTrip
 pub mod Rows
 pub mod Table
+pub mod LargeBodies
