@@ -7,10 +7,10 @@ use crate::line::begins;
 use crate::line::text;
 use crate::show;
 use comment::Commented;
+use coordinates::Placed;
 use identifier::Identified;
 use identifier::Word;
 use lent::Written;
-use position::Placed;
 use position::Position;
 use reserved::Reserved;
 use span::Span;
@@ -233,20 +233,20 @@ fn of_book<'a>(kind: usize, first: &'a [u8], second: &'a [u8], third: &[u8]) {
         BOOK => show::labelled(b" ", book::check(first) as usize),
         RESERVED => reserved(reserved::lookup(first, second)),
         UNCHECKED => reserved(reserved::lookup_in(first, second)),
-        FIND => show::bytes(reserved::find(first, second, third)),
+        FIND => show::bytes(two_books::find(first, second, third)),
         _ => show::text(b" nothing of this name"),
     }
 }
 
 fn of_text(kind: usize, case: Case, first: &[u8], second: &[u8]) {
     match kind {
-        COMMENT => comment(comment::scan_block_comment(
+        COMMENT => comment(block_comment::scan_block_comment(
             first,
             case.number(3),
             case.place(1),
             case.number(0),
         )),
-        IDENTIFIER => identifier(identifier::parse_identifier_token(
+        IDENTIFIER => identifier(identifier_token::parse_identifier_token(
             first,
             case.number(2),
             case.place(0),
@@ -254,8 +254,8 @@ fn of_text(kind: usize, case: Case, first: &[u8], second: &[u8]) {
         )),
         LOOKUP => show::token(keywords::lookup_symbol_from_syntax(first)),
         SYMBOL => symbol(symbols::longest_symbol(first, case.number(0))),
-        DOC => show::truth(comment::is_doc_comment(first)),
-        _ => show::truth(identifier::is_valid_identifier(first)),
+        DOC => show::truth(doc_comment::is_doc_comment(first)),
+        _ => show::truth(valid::is_valid_identifier(first)),
     }
 }
 

@@ -1,12 +1,12 @@
 // How answers are written: each part with a space before it.
 use chars::cursor::Cursor;
+use coordinates::Placed;
 use fault::Fault;
 use lent::Written;
 use literal::End;
 use literal::Refusal;
 use literal::Scanned;
 use literal::Terminator;
-use position::Placed;
 use position::Position;
 use token::Lookup;
 
@@ -51,8 +51,8 @@ pub fn bytes(b: &[u8]) {
 
 // A place as line and column, NONE being 0:0.
 pub fn place(p: Position) {
-    labelled(b" ", p.line().unwrap_or(0));
-    labelled(b":", p.position().unwrap_or(0));
+    labelled(b" ", p.line_number() as usize);
+    labelled(b":", p.column_number() as usize);
 }
 
 // Where a scan stopped.
