@@ -13,14 +13,13 @@ fn row_of(s: Scanned) -> [u64; 11]
     match s {
         Scanned::Accepted(end, len) => {
             let cursor = end.cursor;
-            let on_record = end.on_record;
             return [
                 0,
                 cursor.at as u64,
                 pack::pack(cursor.place),
                 pack::pack(end.first),
-                on_record.c as u64,
-                on_record.times as u64,
+                end.on_record.c as u64,
+                end.on_record.times as u64,
                 len as u64,
                 end.interpolated as u64,
                 0,
@@ -30,21 +29,19 @@ fn row_of(s: Scanned) -> [u64; 11]
         }
         Scanned::Refused(refusal) => {
             let fault = refusal.fault;
-            let part = fault.part;
             let cursor = refusal.cursor;
-            let on_record = refusal.on_record;
             return [
                 fault.number as u64,
                 cursor.at as u64,
                 pack::pack(cursor.place),
                 0,
-                on_record.c as u64,
-                on_record.times as u64,
+                refusal.on_record.c as u64,
+                refusal.on_record.times as u64,
                 0,
                 0,
                 pack::pack(fault.place),
-                part.at as u64,
-                part.len as u64,
+                fault.part.at as u64,
+                fault.part.len as u64,
             ];
         }
     }

@@ -59,39 +59,24 @@ fn step(c: u32, s: Body, next: Cursor) -> Body
     let place = next.place;
     let first = s.first.or_else(place);
     if c == QUOTE {
-        return Body {
-            held: 1,
-            place,
-            first,
-        };
+        let held = 1;
+        return Body { held, place, first };
     }
     if 0 < s.held {
         if c == HASH {
-            return Body {
-                held: s.held + 1,
-                place,
-                first,
-            };
+            let held = s.held + 1;
+            return Body { held, place, first };
         }
-        return Body {
-            held: 0,
-            place,
-            first,
-        };
+        let held = 0;
+        return Body { held, place, first };
     }
+    let held = 0;
     if c == LF {
-        let line = place.lined();
-        return Body {
-            held: 0,
-            place: line,
-            first: s.first.or_else(line),
-        };
+        let place = place.lined();
+        let first = s.first.or_else(place);
+        return Body { held, place, first };
     }
-    Body {
-        held: 0,
-        place,
-        first,
-    }
+    Body { held, place, first }
 }
 
 // A fault of a literal that is about no part of it, with the cursor where it was found and what is on record then.
@@ -125,14 +110,7 @@ fn accept(cursor: Cursor, first: Position, on_record: Terminator, len: usize) ->
 // The length of the body that begins at `from` and that k hashes close, and how it ends, within a limit and a room. The
 // literal's start is where its refusals are reported. A raw body is a part of the text: all from its beginning to here, but
 // for what is held back.
-fn measure_body(
-    text: &[u8],
-    start: Cursor,
-    from: Cursor,
-    k: usize,
-    limit: usize,
-    room: usize,
-) -> Scanned
+fn body_of(text: &[u8], start: Cursor, from: Cursor, k: usize, limit: usize, room: usize) -> Scanned
     requires { ⌜ (1 ≤ k) × (from .at ≤ length (now text)) ⌝ }
     ensures { λ r. ⌜ r ≡ cut (refused 9 start) limit room 0 (leftOf asSource (now (text .entry)) (start .place) (At k from)) ⌝ }
 {
@@ -239,7 +217,7 @@ pub fn measure(text: &[u8], start: Cursor, hashes: usize, limit: usize, room: us
             return Scanned::Refused(refusal);
         }
         Opened::At(k, from) => {
-            return measure_body(text, start, from, k, limit, room);
+            return body_of(text, start, from, k, limit, room);
         }
     }
 }

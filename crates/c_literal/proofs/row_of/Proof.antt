@@ -11,14 +11,14 @@ returns : tie.Need-returns
 unfolding rowOf told
 returns c =
     let call = c .before .before in
-    let known = call .before .before .before .before .before in
+    let known = call .before .before .before .before in
     (rw (known .s .given .1, call .before .pack .ensures, call .pack2 .ensures, worked .no-place), omega arith)
 
 returns-2 : tie.Need-returns-2
 unfolding rowOf told
 returns-2 c =
     let call = c .before .before in
-    let known = call .before .before .before .before .before .before .before in
+    let known = call .before .before .before .before .before in
     (rw (known .s2 .given .1, call .pack3 .ensures, c .pack4 .ensures, worked .no-place), omega arith)
 
 pub row-of-spec : {M : Type 1} → statement M

@@ -20,7 +20,7 @@ returns c =
 returns-2 : tie.Need-returns-2
 returns-2 c =
     let entered = c .before .before .before .before in
-    c .measure-body .ensures ∙ sym (rw (left entered, c .before .before .opened2 .given .1))
+    c .body-of .ensures ∙ sym (rw (left entered, c .before .before .opened2 .given .1))
 
 pub measure-spec : {M : Type 1} → statement M
 measure-spec =

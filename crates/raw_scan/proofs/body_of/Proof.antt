@@ -18,8 +18,8 @@ use Rattle.raw_scan.specs.declared.Opened.the-variants.{At}
 use Rattle.raw_scan.proofs.Turns.{further-on, ends-open}
 use Rattle.raw_scan.proofs.Steps.{Tells, more, tells}
 use Rattle.raw_scan.proofs.Loops.{is-over, no-room, is-too-long, goes-on}
-use Rattle.raw_scan.proofs.measure_body.Statement.{statement}
-use Rattle.raw_scan.proofs.measure_body.Tie as tie
+use Rattle.raw_scan.proofs.body_of.Statement.{statement}
+use Rattle.raw_scan.proofs.body_of.Tie as tie
 
 abbrev Inv-loop : tie.InvT-loop
 Inv-loop text start hashes limit room kept begin at₀ s₀ at s =
@@ -135,8 +135,8 @@ loop-again c =
           ∙ ap (left (at-turn k) (next (k .before) .at - start (at-turn k) .args .from .at - k .step .result .held) (next (k .before) .at)) (sym (k .step .ensures)),
     )
 
-pub measure-body-spec : {M : Type 1} → statement M
-measure-body-spec =
+pub body-of-spec : {M : Type 1} → statement M
+body-of-spec =
     tie.close
     (tie.spec
     Inv-loop
