@@ -88,6 +88,24 @@ module _ (full : Refusal) (l m r s : ℕ) (nine : full .fault .number ≡ 9) (lo
 pub recurs-whole : Recurs-whole
 recurs-whole full l m r s t nine sv loose more x y = recurs full l m r s nine loose more 0 t sv x y
 
+-- an accepted reading stays accepted
+module _ (full : Refusal) (l m r s : ℕ) (loose : Looser l m) (more : r ≤ s) (e : End) (k : ℕ) where
+  accepted : (n : ℕ) (t : Trace) → cut full l r n t ≡ Accepted e k → cut full m s n t ≡ Accepted e k
+  unfolding cut
+  accepted n (ends x) = λ h. h
+  accepted n (fails f) = λ h. not-accepted h
+  accepted n (adds bs t) =
+      pick-cases (λ (a : Scanned). a ≡ Accepted e k → pick (leb (n + length bs) s) (cut full m s (n + length bs) t) (Refused full) ≡ Accepted e k) (leb (n + length bs) r) _ _
+      (λ q h. rw (le-leb (n + length bs) s (omega (arith, leb-true (n + length bs) r q))) (accepted (n + length bs) t h))
+      (λ q h. not-accepted h)
+  accepted n (checks f t) =
+      pick-cases (λ (a : Scanned). a ≡ Accepted e k → pick (passes m n) (Refused f) (cut full m s n t) ≡ Accepted e k) (passes l n) _ _
+      (λ q h. not-accepted h)
+      (λ q h. rw (looser l m n loose q) (accepted n t h))
+
+pub stays-accepted : (full : Refusal) (l m r s : ℕ) (t : Trace) (e : End) (k : ℕ) → Looser l m → r ≤ s → cut full l r 0 t ≡ Accepted e k → cut full m s 0 t ≡ Accepted e k
+stays-accepted full l m r s t e k loose more = accepted full l m r s loose more e k 0 t
+
 -- ---- where a reading is cut
 refusal-is : {f g : Refusal} → Refused f ≡ Refused g → f ≡ g
 refusal-is h = cc

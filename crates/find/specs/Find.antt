@@ -1,0 +1,126 @@
+-- What begins at a place of a script: document 01, "Run": "Skips White_Space, then: letter or `_` an identifier; digit a number run; `"`, `'`, backtick; `#` before `{` is a symbol, else raw; `//` to before LF; `/*`; else the longest listed symbol".
+use Prim.Native.Nat.{ℕ, zero, suc, _+_, _-_}
+use Prim.Native.Char.{code}
+use mathlib.Core.Bool.{Bool, true, false}
+use mathlib.Core.List.{List, [], _∷_}
+use lib.Dec.{eqb}
+use Rattle.basis.specs.Pick.{pick, either}
+use Rattle.position.specs.declared.Position.{Position}
+use Rattle.position.specs.Place.{advanced, lined}
+use Rattle.utf8.specs.Table.{Ch, lookAt}
+use Rattle.utf8.specs.declared.Look.{Look}
+use Rattle.utf8.specs.declared.Look.the-variants as look
+use Rattle.classes.specs.Class.{isNumericDigit, isIdFirstAlphabetic}
+use Rattle.classes.specs.White.{isWhite}
+use Rattle.chars.specs.Cursors.{cursor}
+use Rattle.chars.specs.Scan.{Turn, go, stop, Rule, runAt}
+use Rattle.chars.specs.declared.cursor.Cursor.{Cursor}
+use Rattle.fault.specs.Faults.{part, unexpectedInput, stillOpen}
+use Rattle.token.specs.Tokens as Token
+use Rattle.identifier.specs.Identifiers.{identifyOf, endFrom}
+use Rattle.identifier.specs.declared.Identified.{Identified}
+use Rattle.identifier.specs.declared.Identified.the-variants as identified
+use Rattle.symbols.specs.Symbols.{longestSymbolOf}
+use Rattle.symbols.specs.declared.Longest.{Longest}
+use Rattle.symbols.specs.declared.Longest.the-variants.{Symbol, Nothing}
+use Rattle.comment.specs.Block.{commentOf}
+use Rattle.find.specs.declared.Found.{Found}
+use Rattle.find.specs.declared.Found.the-variants.{White, Part, Literal, Wrong, End}
+
+-- document 01's kinds that are found here
+abbrev pub symbol : ℕ
+symbol = 3
+
+abbrev pub number : ℕ
+number = 4
+
+abbrev pub string : ℕ
+string = 5
+
+abbrev pub text : ℕ
+text = 7
+
+abbrev pub raw : ℕ
+raw = 8
+
+abbrev pub char : ℕ
+char = 9
+
+abbrev pub comment : ℕ
+comment = 10
+
+-- past a character that is white: only LF starts a line
+unfoldable pub whiteOf : ℕ → Cursor → Found
+whiteOf c to = White (pick (eqb c 0x0A) (cursor (to .at) (lined (to .place))) to)
+
+-- a name, a keyword, a reserved word, the symbol `_`; or 8
+unfoldable pub wordOf : Identified → Found
+wordOf (identified.Found w) = Part (w .kind) (w .token) (w .cursor)
+wordOf (identified.Refused f c) = Wrong f
+
+-- a number: the longest run of ASCII letters, digits and `_`
+unfoldable pub numberOf : List ℕ → Cursor → Found
+numberOf t to = Part number Token.IntegerConstant (endFrom t to)
+
+-- a column on for each of n characters
+unfoldable pub columns : ℕ → Position → Position
+columns zero p = p
+columns (suc n) p = columns n (advanced p)
+
+-- the longest listed symbol, whose first character is at p; or 5, about a character so many bytes wide
+unfoldable pub symbolOf : ℕ → ℕ → Position → Longest → Found
+symbolOf at w p (Symbol token n) = Part symbol token (cursor (at + n) (columns (n - 1) p))
+symbolOf at w p Nothing = Wrong (unexpectedInput p (part at w))
+
+-- one turn through the rest of a line: every character takes a column, and LF is not taken
+abbrev pub lineTurn : ℕ → List Ch → Position → Turn Position (Unit {0}) Cursor
+lineTurn at [] p = stop (cursor at p)
+lineTurn at (c ∷ cs) p = pick (eqb (c .code) 0x0A) (stop (cursor at p)) (go tt 0 (advanced p))
+
+abbrev pub lineRule : Rule Position (Unit {0}) Cursor
+lineRule = record { turn = lineTurn; end = λ at p. cursor at p; note = λ n r. r }
+
+-- `//` to before LF, from behind the second character
+unfoldable pub lineOf : List ℕ → Cursor → Found
+lineOf t c = Part comment Token.Comment (runAt lineRule t (c .at) (c .place))
+
+-- `/*` to its end, from behind the second character; 11 at the cursor where a level is still open there
+unfoldable pub blockOf : List ℕ → Cursor → Found
+blockOf t c = let r = commentOf t c 1 in pick (eqb (r .level) 0) (Part comment Token.Comment (r .cursor)) (Wrong (stillOpen (r .cursor .place)))
+
+-- the code point of a character found; no code point at the end
+abbrev pub codeOf : Look → ℕ
+codeOf (look.Char c w) = c
+codeOf look.End = 0x110000
+
+-- what `/` begins, by the character behind it
+unfoldable pub slashOf : List ℕ → ℕ → Position → ℕ → Found
+slashOf t at p d =
+    pick (eqb d (code "/")) (lineOf t (cursor (at + 2) (advanced p)))
+    (pick (eqb d (code "*")) (blockOf t (cursor (at + 2) (advanced p))) (symbolOf at 1 p (longestSymbolOf t at)))
+
+-- what `#` begins, by the character behind it
+unfoldable pub hashOf : List ℕ → ℕ → Position → ℕ → Found
+hashOf t at p d = pick (eqb d (code "{")) (symbolOf at 1 p (longestSymbolOf t at)) (Literal raw (cursor (at + 1) p))
+
+-- what a character begins, so many bytes wide, at an offset and a place
+unfoldable pub beginsOf : List ℕ → List ℕ → ℕ → Position → ℕ → ℕ → Found
+beginsOf t book at p c w =
+    let next = cursor (at + w) p in
+    pick (isWhite c) (whiteOf c next)
+    (pick (either (isIdFirstAlphabetic c) (eqb c (code "_"))) (wordOf (identifyOf t book (cursor at p)))
+    (pick (isNumericDigit c) (numberOf t next)
+    (pick (eqb c (code "\"")) (Literal string next)
+    (pick (eqb c (code "'")) (Literal char next)
+    (pick (eqb c (code "`")) (Literal text next)
+    (pick (eqb c (code "#")) (hashOf t at p (codeOf (lookAt t (at + 1))))
+    (pick (eqb c (code "/")) (slashOf t at p (codeOf (lookAt t (at + 1))))
+    (symbolOf at w p (longestSymbolOf t at)))))))))
+
+abbrev pub onLook : List ℕ → List ℕ → Cursor → Look → Found
+onLook t book s (look.Char c w) = beginsOf t book (s .at) (advanced (s .place)) c w
+onLook t book s look.End = End
+
+-- what begins behind a cursor, under a good book
+unfoldable pub findOf : List ℕ → List ℕ → Cursor → Found
+findOf t book s = onLook t book s (lookAt t (s .at))

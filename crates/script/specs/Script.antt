@@ -1,0 +1,29 @@
+-- A script's reading by the unlimited rules: document 01, "Run".
+use Prim.Native.Nat.{ℕ, zero, suc, _+_, _-_}
+use mathlib.Core.List.{List, [], _∷_}
+use lib.ListN.{drop}
+use Rattle.position.specs.Place.{none}
+use Rattle.fault.specs.Faults.{stillOpen}
+use Rattle.reading.specs.Reading.{Reading, halts}
+use Rattle.script.specs.declared.State.{State}
+use Rattle.script.specs.States.{begun}
+use Rattle.script.specs.Steps.{Step, on, over, stepOf}
+
+-- what a step leads to
+abbrev pub onStep : Step → (State → Reading) → Reading
+onStep (on note s) next = note (next s)
+onStep (over r) next = r
+
+-- the reading, step by step, of a script of which k bytes are still to pass before the next one
+unfoldable pub readingFrom : List ℕ → List ℕ → ℕ → List ℕ → State → Reading
+readingFrom t book k [] s = onStep (stepOf t book s) (λ s′. halts (stillOpen none))
+readingFrom t book zero (b ∷ bs) s = onStep (stepOf t book s) (λ s′. readingFrom t book (s′ .cursor .at - suc (s .cursor .at)) bs s′)
+readingFrom t book (suc k) (b ∷ bs) s = readingFrom t book k bs s
+
+-- the reading of a script from where a run stands
+unfoldable pub scriptFrom : List ℕ → List ℕ → State → Reading
+scriptFrom t book s = readingFrom t book 0 (drop (s .cursor .at) t) s
+
+-- the reading of a whole script, under a good book
+unfoldable pub scriptOf : List ℕ → List ℕ → Reading
+scriptOf t book = scriptFrom t book begun

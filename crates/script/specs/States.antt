@@ -1,0 +1,51 @@
+-- Where a run stands, and what a token makes of it: document 01, "counting open braces (`{` and `#{`) at each of sixteen levels, until the matching `}`".
+use Prim.Native.Nat.{ℕ, _+_, _-_}
+use mathlib.Core.Bool.{Bool, true, false}
+use mathlib.Core.List.{List}
+use lib.Dec.{eqb, leb}
+use lib.ListN.{replicate, getD, set}
+use Rattle.basis.specs.Pick.{pick, either}
+use Rattle.position.specs.Place as Place
+use Rattle.token.specs.Tokens as Token
+use Rattle.chars.specs.Cursors.{cursor}
+use Rattle.chars.specs.declared.cursor.Cursor.{Cursor}
+use Rattle.script.specs.declared.State.{State}
+
+abbrev pub state : Cursor → ℕ → List ℕ → Bool → State
+state c n bs d = record { cursor = c; level = n; braces = bs; due = d }
+
+-- where a run begins
+unfoldable pub begun : State
+begun = state (cursor 0 Place.start) 0 (replicate 16 0) false
+
+-- behind something that opens and closes nothing
+unfoldable pub movedTo : Cursor → State → State
+movedTo c s = state c (s .level) (s .braces) false
+
+-- behind a piece of text that `${` ended: one interpolation more, with no brace open yet
+unfoldable pub interpolated : Cursor → State → State
+interpolated c s = state c (s .level + 1) (set (s .braces) (s .level) 0) false
+
+-- the open braces of the innermost interpolation
+unfoldable pub count : State → ℕ
+count s = getD (s .braces) (s .level - 1) 0
+
+-- so many of them, and the run stands at a cursor
+unfoldable pub counted : Cursor → ℕ → State → State
+counted c n s = state c (s .level) (set (s .braces) (s .level - 1) n) false
+
+-- the innermost interpolation is closed, and its text goes on
+unfoldable pub resumed : Cursor → State → State
+resumed c s = state c (s .level - 1) (set (s .braces) (s .level - 1) 0) true
+
+-- behind an opening brace
+unfoldable pub opened : Cursor → State → State
+opened c s = pick (eqb (s .level) 0) (movedTo c s) (counted c (count s + 1) s)
+
+-- behind a closing brace: the last one of an interpolation closes it
+unfoldable pub closed : Cursor → State → State
+closed c s = pick (eqb (s .level) 0) (movedTo c s) (pick (leb (count s) 1) (resumed c s) (counted c (count s - 1) s))
+
+-- behind a symbol
+unfoldable pub behind : ℕ → Cursor → State → State
+behind t c s = pick (either (eqb t Token.LeftBrace) (eqb t Token.MapStart)) (opened c s) (pick (eqb t Token.RightBrace) (closed c s) (movedTo c s))
