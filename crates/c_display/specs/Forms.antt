@@ -6,12 +6,14 @@ use Rattle.basis.specs.Pick.{pick}
 use Rattle.position.specs.Place.{given}
 use Rattle.position.specs.declared.Position.{Position}
 use Rattle.span.specs.Spans.{newSpan}
-use Rattle.display.specs.Forms.{displayOf, debugOf, spanOf}
+use Rattle.display.specs.declared.Shown.{Shown}
+use Rattle.display.specs.declared.Shown.the-variants as Shown
+use Rattle.display.specs.Forms.{shownOf}
 
 -- 0: Display of the first place; 1: Debug of it; any other: Display of the span between the two
-unfoldable pub formOf : ℕ → Position → Position → List ℕ
-formOf form p q = pick (eqb form 0) (displayOf p) (pick (eqb form 1) (debugOf p) (spanOf (newSpan p q)))
+unfoldable pub formOf : ℕ → Position → Position → Shown
+formOf form p q = pick (eqb form 0) (Shown.Display p) (pick (eqb form 1) (Shown.Debug p) (Shown.Span (newSpan p q)))
 
--- the same of two lines and columns
+-- the words of two lines and columns
 unfoldable pub wordsOf : ℕ → ℕ → ℕ → ℕ → ℕ → List ℕ
-wordsOf form l c m d = formOf form (given l c) (given m d)
+wordsOf form l c m d = shownOf (formOf form (given l c) (given m d))

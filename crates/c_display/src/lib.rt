@@ -3,22 +3,19 @@ ghost use mathlib.Core.Path.{_≡_};
 ghost use Rattle.lent.specs.Written.{writtenOf, leftOf};
 ghost use Rattle.pack.specs.Numbers.{writtenAsNumber};
 ghost use Rattle.c_display.specs.Forms.{formOf, wordsOf};
-use lent::Written;
+use display::Shown;
 use position::Position;
 use span::Span;
 
 // Display of the first place, Debug of it, or Display of the span between the two.
-fn write_form(form: u8, p: Position, q: Position, out: &mut [u8]) -> Written
-    ensures { λ r. ⌜ r ≡ writtenOf (formOf form p q) (now (out .entry)) ⌝ }
-    ensures { λ r. ⌜ now (out .exit) ≡ leftOf (formOf form p q) (now (out .entry)) ⌝ }
+fn form_of(form: u8, p: Position, q: Position) -> Shown
+    ensures { λ r. ⌜ r ≡ formOf form p q ⌝ }
 {
-    if form == 0 {
-        return display::display(p, out);
+    match form {
+        0 => Shown::Display(p),
+        1 => Shown::Debug(p),
+        _ => Shown::Span(Span::new(p, q)),
     }
-    if form == 1 {
-        return display::debug(p, out);
-    }
-    display::display_span(Span::new(p, q), out)
 }
 
 // The length, or 9 times 2^32 where the text has no room. The form: 0 for Display, 1 for Debug, any other for Display of the span.
@@ -36,5 +33,5 @@ pub extern "C" fn stew_display(
 {
     let p = Position::given(line, column);
     let q = Position::given(line2, column2);
-    pack::written_as_number(write_form(form, p, q, out))
+    pack::written_as_number(display::write(form_of(form, p, q), out))
 }

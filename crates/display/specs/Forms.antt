@@ -9,6 +9,8 @@ use Rattle.position.specs.declared.Position.{Position}
 use Rattle.coordinates.specs.declared.Coordinate.{Coordinate}
 use Rattle.coordinates.specs.declared.Coordinate.the-variants.{Some, None}
 use Rattle.span.specs.declared.Span.{Span}
+use Rattle.display.specs.declared.Shown.{Shown}
+use Rattle.display.specs.declared.Shown.the-variants as Shown
 use Rattle.position.specs.Place.{none, isNone, beginsLine, lineNumber, columnNumber}
 use Rattle.coordinates.specs.Coordinates.{lineOf}
 use Rattle.span.specs.Spans.{startOf, endOf}
@@ -63,3 +65,9 @@ between a b =
 -- Display for Span
 unfoldable pub spanOf : Span → List ℕ
 spanOf s = between (startOf s) (endOf s)
+
+-- what is shown, in its words
+unfoldable pub shownOf : Shown → List ℕ
+shownOf (Shown.Display p) = displayOf p
+shownOf (Shown.Debug p) = debugOf p
+shownOf (Shown.Span s) = spanOf s

@@ -1,17 +1,9 @@
--- A text while it is put together, and what the functions that add to it tell each other.
+-- What the functions that add to a text tell each other.
 use Prim.Native.Nat.{ℕ, _+_, _≤_}
 use mathlib.Core.List.{List}
-use lib.ListN.{length, take, replicate}
+use lib.ListN.{length}
 use Rattle.basis.specs.Store.{Stored}
 use Rattle.display.specs.declared.Text.{Text}
-
--- no byte yet
-abbrev pub empty : Text
-empty = record { bytes = replicate 32 0; len = 0 }
-
--- the text so far
-unfoldable pub textOf : Text → List ℕ
-textOf t = take (t .len) (t .bytes)
 
 -- to the text t the bytes xs, at most k of them, are added, and r is the text now
 pub record Put (t : Text) (xs : List ℕ) (k : ℕ) (r : Text) : Type 0 where

@@ -3,22 +3,21 @@ use lent::Written;
 use position::Position;
 use span::Span;
 ghost use Prim.Native.Nat.{_+_, _≤_, _<_};
-ghost use mathlib.Core.Bool.{false};
 ghost use mathlib.Core.List.{[], _∷_};
 ghost use mathlib.Core.Path.{_≡_};
 ghost use lib.ListN.{length};
 ghost use Rattle.lent.specs.Written.{writtenOf, leftOf};
-ghost use Rattle.position.specs.Place.{isNone};
+ghost use Rattle.position.specs.Place.{columnNumber};
 ghost use Rattle.display.specs.Decimal.{decimal};
-ghost use Rattle.display.specs.Put.{textOf, Put};
-ghost use Rattle.display.specs.Forms.{
-  colonOf,
-  longOf,
-  displayOf,
-  debugOf,
-  dashed,
-  spanOf,
-};
+ghost use Rattle.display.specs.Put.{Put};
+ghost use Rattle.display.specs.Forms.{displayOf, debugOf, spanOf, shownOf};
+
+// What is shown: a place by Display or by Debug, or a span, of which the two are one.
+pub enum Shown {
+    Display(Position),
+    Debug(Position),
+    Span(Span),
+}
 
 // A text while it is put together: its length, and the bytes with it in front. None has more than
 // the 26 bytes of `line 65535, position 65535`.
@@ -33,6 +32,7 @@ const BLANK: Text = Text {
     len: 0,
 };
 
+// One byte more.
 fn put_byte(t: Text, b: u8) -> Text
     requires { ⌜ t .len < 32 ⌝ }
     ensures { λ r. ⌜ Put t (b ∷ []) 1 r ⌝ }
@@ -46,6 +46,7 @@ fn put_byte(t: Text, b: u8) -> Text
     }
 }
 
+// The bytes of a word, which have room.
 fn put_word(t: Text, word: &[u8]) -> Text
     requires { ⌜ t .len + length (now word) ≤ 32 ⌝ }
     ensures { λ r. ⌜ Put t (now (word .entry)) (length (now (word .entry))) r ⌝ }
@@ -55,73 +56,58 @@ fn put_word(t: Text, word: &[u8]) -> Text
     Text { bytes, len }
 }
 
-// The digits of a number, the highest first.
-fn put_decimal(t: Text, n: u16) -> Text
+// The digits of a number: those of its tens, and then the last.
+fn put_decimal(mut t: Text, n: u16) -> Text
     requires { ⌜ t .len + 5 ≤ 32 ⌝ }
     ensures { λ r. ⌜ Put t (decimal n) 5 r ⌝ }
 {
-    if n < 10 {
-        return put_byte(t, 48 + n as u8);
+    if 10 <= n {
+        t = put_decimal(t, n / 10);
     }
-    put_byte(put_decimal(t, n / 10), 48 + (n % 10) as u8)
+    put_byte(t, 48 + (n % 10) as u8)
 }
 
-// "3:7".
-fn put_colon(t: Text, p: Position) -> Text
-    requires { ⌜ t .len + 11 ≤ 32 ⌝ }
-    ensures { λ r. ⌜ Put t (colonOf p) 11 r ⌝ }
+// A byte, and the column behind it: ":7".
+fn put_column(t: Text, before: u8, p: Position) -> Text
+    requires { ⌜ t .len + 6 ≤ 32 ⌝ }
+    ensures { λ r. ⌜ Put t (before ∷ decimal (columnNumber p)) 6 r ⌝ }
 {
-    let line = put_decimal(t, p.line_number());
-    put_decimal(put_byte(line, b':'), p.column_number())
+    put_decimal(put_byte(t, before), p.column_number())
 }
 
-fn put_debug(t: Text, p: Position) -> Text
+// "none", "3", "3:7".
+fn put_debug(mut t: Text, p: Position) -> Text
     requires { ⌜ t .len + 11 ≤ 32 ⌝ }
     ensures { λ r. ⌜ Put t (debugOf p) 11 r ⌝ }
 {
     if p.is_none() {
         return put_word(t, b"none");
     }
+    t = put_decimal(t, p.line_number());
     if p.is_beginning_of_line() {
-        return put_decimal(t, p.line_number());
+        return t;
     }
-    put_colon(t, p)
+    put_column(t, b':', p)
 }
 
-// "line 3, position 7".
-fn put_long(t: Text, p: Position) -> Text
-    requires { ⌜ t .len + 26 ≤ 32 ⌝ }
-    ensures { λ r. ⌜ Put t (longOf p) 26 r ⌝ }
-{
-    let line = put_decimal(put_word(t, b"line "), p.line_number());
-    put_decimal(put_word(line, b", position "), p.column_number())
-}
-
-// NONE reads the same in both forms.
-fn put_display(t: Text, p: Position) -> Text
+// "line 3, position 7"; NONE reads the same in both forms.
+fn put_display(mut t: Text, p: Position) -> Text
     requires { ⌜ t .len + 26 ≤ 32 ⌝ }
     ensures { λ r. ⌜ Put t (displayOf p) 26 r ⌝ }
 {
     if p.is_none() {
         return put_debug(t, p);
     }
-    put_long(t, p)
+    t = put_word(t, b"line ");
+    t = put_decimal(t, p.line_number());
+    t = put_word(t, b", position ");
+    put_decimal(t, p.column_number())
 }
 
-// Two places, neither of them NONE: "1:9-3:7", or "1:9-15" on one line. Both have a line, so that the numbers differ
-// exactly where the Rust's Options do, and its `start.line().unwrap()` cannot fail.
-fn put_dashed(t: Text, start: Position, end: Position) -> Text
-    requires { ⌜ (isNone start ≡ false) × (isNone end ≡ false) × (t .len + 23 ≤ 32) ⌝ }
-    ensures { λ r. ⌜ Put t (dashed start end) 23 r ⌝ }
-{
-    if start.line_number() != end.line_number() {
-        return put_debug(put_byte(put_debug(t, start), b'-'), end);
-    }
-    put_decimal(put_byte(put_colon(t, start), b'-'), end.column_number())
-}
-
-// The cases of the Rust's match. Its first and its third are one: up to NONE the start is alone, NONE too.
-fn put_span(t: Text, s: Span) -> Text
+// The cases of the Rust's match: "2:3", "..2:3", "1:9-3:7", "1:9-15". Its first and its third are one: up to NONE the start is
+// alone, NONE too. Past them neither place is NONE, so that the numbers of the lines differ exactly where the Rust's Options do, and
+// its `start.line().unwrap()` cannot fail.
+fn put_span(mut t: Text, s: Span) -> Text
     requires { ⌜ t .len + 23 ≤ 32 ⌝ }
     ensures { λ r. ⌜ Put t (spanOf s) 23 r ⌝ }
 {
@@ -131,41 +117,32 @@ fn put_span(t: Text, s: Span) -> Text
         return put_debug(t, start);
     }
     if start.is_none() {
-        return put_debug(put_byte(put_byte(t, b'.'), b'.'), end);
+        t = put_byte(t, b'.');
+        t = put_byte(t, b'.');
+        return put_debug(t, end);
     }
-    put_dashed(t, start, end)
+    let line = start.line_number();
+    if line != end.line_number() {
+        t = put_debug(t, start);
+        t = put_byte(t, b'-');
+        return put_debug(t, end);
+    }
+    t = put_decimal(t, line);
+    t = put_column(t, b':', start);
+    put_column(t, b'-', end)
 }
 
-// The text goes out whole, or is refused with 9 and leaves what is lent as it was.
-fn write_text(t: Text, out: &mut [u8]) -> Written
-    requires { ⌜ t .len ≤ length (t .bytes) ⌝ }
-    ensures { λ r. ⌜ r ≡ writtenOf (textOf t) (now (out .entry)) ⌝ }
-    ensures { λ r. ⌜ now (out .exit) ≡ leftOf (textOf t) (now (out .entry)) ⌝ }
+// What is shown goes out whole, or is refused with 9 and leaves what is lent as it was.
+pub fn write(what: Shown, out: &mut [u8]) -> Written
+    ensures { λ r. ⌜ r ≡ writtenOf (shownOf what) (now (out .entry)) ⌝ }
+    ensures { λ r. ⌜ now (out .exit) ≡ leftOf (shownOf what) (now (out .entry)) ⌝ }
 {
-    let bytes = t.bytes;
-    lent::write(&bytes[..t.len], out)
-}
-
-// Display for Position.
-pub fn display(p: Position, out: &mut [u8]) -> Written
-    ensures { λ r. ⌜ r ≡ writtenOf (displayOf p) (now (out .entry)) ⌝ }
-    ensures { λ r. ⌜ now (out .exit) ≡ leftOf (displayOf p) (now (out .entry)) ⌝ }
-{
-    write_text(put_display(BLANK, p), out)
-}
-
-// Debug for Position.
-pub fn debug(p: Position, out: &mut [u8]) -> Written
-    ensures { λ r. ⌜ r ≡ writtenOf (debugOf p) (now (out .entry)) ⌝ }
-    ensures { λ r. ⌜ now (out .exit) ≡ leftOf (debugOf p) (now (out .entry)) ⌝ }
-{
-    write_text(put_debug(BLANK, p), out)
-}
-
-// Display for Span, and Debug, which is the same.
-pub fn display_span(s: Span, out: &mut [u8]) -> Written
-    ensures { λ r. ⌜ r ≡ writtenOf (spanOf s) (now (out .entry)) ⌝ }
-    ensures { λ r. ⌜ now (out .exit) ≡ leftOf (spanOf s) (now (out .entry)) ⌝ }
-{
-    write_text(put_span(BLANK, s), out)
+    let blank = BLANK;
+    let text = match what {
+        Shown::Display(p) => put_display(blank, p),
+        Shown::Debug(p) => put_debug(blank, p),
+        Shown::Span(s) => put_span(blank, s),
+    };
+    let bytes = text.bytes;
+    lent::write(&bytes[..text.len], out)
 }

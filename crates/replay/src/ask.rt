@@ -8,6 +8,7 @@ use crate::line::text;
 use crate::show;
 use comment::Commented;
 use coordinates::Placed;
+use display::Shown;
 use identifier::Identified;
 use identifier::Word;
 use lent::Written;
@@ -206,11 +207,12 @@ fn moved(kind: usize, p: Position, q: Position) -> Placed {
 }
 
 fn form(kind: usize, p: Position, q: Position, out: &mut [u8]) -> Written {
-    match kind {
-        DISPLAY => display::display(p, out),
-        DEBUG => display::debug(p, out),
-        _ => display::display_span(Span::new(p, q), out),
-    }
+    let what = match kind {
+        DISPLAY => Shown::Display(p),
+        DEBUG => Shown::Debug(p),
+        _ => Shown::Span(Span::new(p, q)),
+    };
+    display::write(what, out)
 }
 
 fn partner(kind: usize, t: u8) -> Lookup {

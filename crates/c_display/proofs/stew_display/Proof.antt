@@ -8,17 +8,19 @@ returns : tie.Need-returns
 unfolding wordsOf
 returns c =
     let call = c .before .before .before in
-    let second = call .before .before in
-    rw (← second .before .given .ensures, ← second .given2 .ensures)
-    (rw (c .written-as-number .ensures, call .write-form .ensures .0), call .write-form .ensures .1)
+    let form = call .before .before in
+    let second = form .before in
+    rw (← second .before .given .ensures, ← second .given2 .ensures, ← form .form-of .ensures)
+    (rw (c .written-as-number .ensures, call .write .ensures .0), call .write .ensures .1)
 
 pub stew-display-spec : {M : Type 1} → statement M
 stew-display-spec =
     tie.close
     (tie.spec
-    (λ c κs. search needs)
-    (λ c κs. search needs)
-    (λ c κs. search needs)
-    (λ c κs. search needs)
+    (λ c κs. tt)
+    (λ c κs. tt)
+    (λ c κs. tt)
+    (λ c κs. tt)
+    (λ c κs. tt)
     (λ c. search needs)
     returns)

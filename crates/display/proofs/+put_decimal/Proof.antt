@@ -4,6 +4,7 @@ use native.Mathlib.Omega.{arith}
 use borrow.Author.Needs.{needs}
 use borrow.Fn.Kinds.{In}
 use borrow.Fn.PlainCycle.{Measures, is, falls, and}
+use mathlib.Core.Logic.{⊎-elim}
 use Rattle.display.proofs.Texts.{one-digit, digit-room, digit-more}
 use Rattle.display.proofs.put_decimal.Reads as put-decimal
 use Rattle.display.proofs.put_decimal.Kinds as put-decimal-kinds
@@ -25,19 +26,15 @@ put-decimal-below t =
 
 pub +put-decimal-spec : {M : Type 1} → statement M
 +put-decimal-spec = close μ-put-decimal λ t. put-decimal-lts.spec (
-  put-byte-reads.Asked,
-  put-byte-reads.Learnt,
   put-decimal-below t,
   put-decimal.Post,
+  put-byte-reads.Asked,
+  put-byte-reads.Learnt,
 )
     (put-decimal-at t)
     put-decimal.Post
-    (λ c. search needs)
-    (λ c. search needs)
-    (λ c κs. omega arith)
-    (λ c. one-digit (c .before .if1 .taken) (c .put-byte .ensures))
     (λ c κs. (omega (arith, c .before .pre .0), omega arith))
     (λ c. search needs)
     (λ c. search needs)
-    (λ c κs. digit-room (omega arith) (c .before .if1 .left) (c .put-decimal .ensures) (omega arith))
-    (λ c. digit-more (omega arith) (c .before .before .if1 .left) (c .before .put-decimal .ensures) (c .put-byte2 .ensures))
+    (λ c κs. ⊎-elim (λ w. digit-room (omega arith) (w .0 .taken) (w .1 .ensures) (w .2) (omega arith)) (λ w. rw (w .1) (omega arith)) (c .if1 .came))
+    (λ c. ⊎-elim (λ w. digit-more (omega arith) (w .0 .taken) (w .1 .ensures) (w .2) (c .put-byte .ensures)) (λ w. one-digit (w .0 .left) (w .1) (c .put-byte .ensures)) (c .before .if1 .came))

@@ -9,5 +9,5 @@ pub put-word-spec : {M : Type 1} → statement M
 put-word-spec = tie.close
     (tie.spec
     (λ c. search needs)
-    (λ c κs. search needs)
+    (λ c κs. tt)
     (λ c. record { stored = whole _ _ _ (c .before .copy .ensures .0) (c .before .copy .ensures .1) (omega arith); short = omega arith }))
