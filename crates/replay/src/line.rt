@@ -1,31 +1,29 @@
-// A case as a line of text. Words are for the reader, but for the first. Numbers are decimal and are taken in order; a quote,
-// an apostrophe, a backtick, `#` and `$` are numbers too, their code points. A text is made of pieces: `[..]` holds bytes as
-// they are, `<..>` holds them in hex, and `3*` before a piece repeats each of its bytes. A comma ends a text.
-ghost use Prim.Native.Nat.{_≤_, _<_};
-ghost use lib.ListN.{length};
+// A case as a line of text, read byte by byte. A space, a colon or the line feed ends a field: a word, which is for the reader
+// but for the first, or a number. Numbers are decimal; a quote, an apostrophe, a backtick, `#` and `$` are numbers too, their code points.
+// A text is made of pieces: `[..]` holds bytes as they are, `<..>` holds them in hex, and `3*` before a piece repeats each of
+// its bytes. A comma ends a text.
 use position::Position;
 
+// The names of lines that ask nothing are below this one: those that begin with `#`, and those of fewer than four bytes.
+pub const LEAST: usize = 0x2400_0000;
+
 pub struct Case {
-    // The numbers, and how many there are; those that are not given are 0.
-    numbers: [usize; 8],
+    // The first four bytes of the line as one number.
+    pub name: usize,
+    // The fields that were read, a word being 0, how many they are, and the number that is read.
+    fields: [usize; 12],
     count: usize,
-    // Where each text ends among the bytes of all texts, and which text the next piece belongs to.
-    ends: [usize; 4],
-    last: usize,
-    // How often each byte of the next piece stands.
+    number: usize,
+    // Where the last text but two, the last but one and the last end among the bytes of all texts.
+    first: usize,
+    second: usize,
+    third: usize,
+    // The byte that ends the piece that is read; 0 where none is.
+    closer: u8,
+    // How often each byte of the piece stands.
     times: usize,
-}
-
-// How far a line was read, and what it says up to there.
-struct Stop {
-    at: usize,
-    case: Case,
-}
-
-// How far a line was read, and a number: the one read, or how many bytes stand among the texts then.
-struct Read {
-    at: usize,
-    n: usize,
+    // The first digit of a byte in hex; 16 where none was read.
+    high: usize,
 }
 
 // A part of the bytes; an empty one where its ends are not in order or not within them.
@@ -46,19 +44,31 @@ fn u16_of(n: usize) -> u16 {
     65535
 }
 
-impl Case {
-    pub fn number(self, i: usize) -> usize {
-        let numbers = self.numbers;
-        if i < 8 {
-            return numbers[i];
-        }
-        0
-    }
+// A byte as a digit: 16 for what is none.
+fn digit(b: u8) -> usize {
+    classes::to_digit(b as u32) as usize
+}
 
-    pub fn end(self, i: usize) -> usize {
-        let ends = self.ends;
-        if i < 4 {
-            return ends[i];
+impl Case {
+    // A line of which nothing was read.
+    pub const NEW: Case = Case {
+        name: 0,
+        fields: [0; 12],
+        count: 0,
+        number: 0,
+        first: 0,
+        second: 0,
+        third: 0,
+        closer: 0,
+        times: 1,
+        high: 16,
+    };
+
+    // The number in a field; 0 where there is none.
+    pub fn number(self, i: usize) -> usize {
+        let fields = self.fields;
+        if i < 12 {
+            return fields[i];
         }
         0
     }
@@ -83,236 +93,97 @@ impl Case {
 
     // Two numbers as a place: line and column.
     pub fn place(self, i: usize) -> Position {
-        if i < 8 {
+        if i < 12 {
             return Position::given(u16_of(self.number(i)), u16_of(self.number(i + 1)));
         }
         Position::NONE
     }
 
-    fn with_number(self, n: usize) -> Self {
-        let mut case = self;
-        let i = case.count;
-        if i < 8 {
-            case.numbers[i] = n;
-            case.count = i + 1;
+    // The number that was read is a field.
+    fn with_field(mut self) -> Self {
+        let i = self.count;
+        if i < 12 {
+            self.fields[i] = self.number;
+            self.count = i + 1;
         }
-        case
+        self.number = 0;
+        self
     }
+}
 
-    fn with_end(self, n: usize) -> Self {
-        let mut case = self;
-        let i = case.last;
-        if i < 4 {
-            case.ends[i] = n;
-        }
+// The last text of a case, or the last but so many.
+pub fn text<'a>(case: Case, texts: &'a [u8], back: usize) -> &'a [u8] {
+    match back {
+        0 => part(texts, case.second, case.third),
+        1 => part(texts, case.first, case.second),
+        _ => part(texts, 0, case.first),
+    }
+}
+
+// A byte within a piece in hex.
+fn hex(b: u8, mut case: Case, texts: &mut [u8]) -> Case {
+    let low = digit(b);
+    if 16 <= low {
+        return case;
+    }
+    let high = case.high;
+    if 16 <= high {
+        case.high = low;
+        return case;
+    }
+    case.high = 16;
+    case.third = lent::fill((high * 16 + low) as u8, case.times, texts, case.third);
+    case
+}
+
+// A byte within a piece.
+fn piece(b: u8, mut case: Case, texts: &mut [u8]) -> Case {
+    if b == case.closer {
+        case.closer = 0;
         case.times = 1;
-        case
+        return case;
     }
-
-    // The last number is no number of the case, but how often each byte of the next piece stands.
-    fn repeating(self) -> Self {
-        let mut case = self;
-        let i = case.count;
-        if 0 < i {
-            if i <= 8 {
-                let times = case.number(i - 1);
-                case.numbers[i - 1] = 0;
-                case.count = i - 1;
-                case.times = times;
-            }
-        }
-        case
+    if case.closer == b'>' {
+        return hex(b, case, texts);
     }
-
-    // The next piece begins another text.
-    fn with_text(self) -> Self {
-        let mut case = self;
-        let i = case.last;
-        if i < 3 {
-            let end = case.end(i);
-            case.ends[i + 1] = end;
-            case.last = i + 1;
-        }
-        case
-    }
+    case.third = lent::fill(b, case.times, texts, case.third);
+    case
 }
 
-// A text of a case.
-pub fn text<'a>(case: Case, texts: &'a [u8], i: usize) -> &'a [u8] {
-    if 0 < i {
-        return part(texts, case.end(i - 1), case.end(i));
-    }
-    part(texts, 0, case.end(0))
-}
-
-fn wide(b: u8) -> u32 {
-    b as u32
-}
-
-// A byte as a digit: 16 for what is none.
-fn digit(b: u8) -> usize {
-    classes::to_digit(wide(b)) as usize
-}
-
-// A number with one digit more.
-fn grown(n: usize, d: usize) -> usize {
-    if n < 1_000_000_000_000 {
-        if d < 16 {
-            return n * 10 + d;
-        }
-    }
-    n
-}
-
-// A number, of which so much was read.
-fn number(line: &[u8], from: usize, first: usize) -> Read
-    requires { ⌜ from ≤ length (now line) ⌝ }
-    ensures { λ r. ⌜ (from ≤ r .at) × (r .at ≤ length (now (line .entry))) ⌝ }
-{
-    let mut n = first;
-    let mut at = from;
-    while at < line.len() {
-        let d = digit(line[at]);
-        if 10 <= d {
-            return Read { at, n };
-        }
-        n = grown(n, d);
-        at += 1;
-    }
-    Read { at, n }
-}
-
-// A piece of bytes as they are.
-fn plain(line: &[u8], from: usize, times: usize, texts: &mut [u8], end: usize) -> Read
-    requires { ⌜ from ≤ length (now line) ⌝ }
-    ensures { λ r. ⌜ (from ≤ r .at) × (r .at ≤ length (now (line .entry))) ⌝ }
-{
-    let mut n = end;
-    let mut at = from;
-    while at < line.len() {
-        let b = line[at];
-        at += 1;
-        if b == b']' {
-            return Read { at, n };
-        }
-        n = lent::fill(b, times, &mut *texts, n);
-    }
-    Read { at, n }
-}
-
-// A byte from two hex digits.
-fn byte(high: usize, low: usize) -> u8 {
-    if high < 16 {
-        if low < 16 {
-            return (high * 16 + low) as u8;
-        }
-    }
-    0
-}
-
-// A piece of bytes in hex, with spaces anywhere.
-fn hex(line: &[u8], from: usize, times: usize, texts: &mut [u8], end: usize) -> Read
-    requires { ⌜ from ≤ length (now line) ⌝ }
-    ensures { λ r. ⌜ (from ≤ r .at) × (r .at ≤ length (now (line .entry))) ⌝ }
-{
-    let mut n = end;
-    let mut at = from;
-    let mut high = 16;
-    while at < line.len() {
-        let b = line[at];
-        at += 1;
-        if b == b'>' {
-            return Read { at, n };
-        }
-        let d = digit(b);
-        if d < 16 {
-            if high < 16 {
-                n = lent::fill(byte(high, d), times, &mut *texts, n);
-                high = 16;
-            } else {
-                high = d;
-            }
-        }
-    }
-    Read { at, n }
-}
-
-// A byte that stands for itself.
-fn mark(b: u8, case: Case) -> Case {
+// A byte outside of pieces that is no digit.
+fn mark(b: u8, mut case: Case) -> Case {
     match b {
-        b'"' | b'\'' | b'`' | b'#' | b'$' => case.with_number(wide(b) as usize),
-        b'*' => case.repeating(),
-        b',' => case.with_text(),
-        _ => case,
-    }
-}
-
-// What stands at an offset of a line: a number, a piece of a text, or a byte.
-fn take(line: &[u8], at: usize, case: Case, texts: &mut [u8]) -> Stop
-    requires { ⌜ at < length (now line) ⌝ }
-    ensures { λ r. ⌜ (at < r .at) × (r .at ≤ length (now (line .entry))) ⌝ }
-{
-    let b = line[at];
-    let next = at + 1;
-    if classes::is_numeric_digit(wide(b)) {
-        let read = number(line, next, digit(b));
-        return Stop {
-            at: read.at,
-            case: case.with_number(read.n),
-        };
-    }
-    let end = case.end(case.last);
-    match b {
-        b'[' => {
-            let read = plain(line, next, case.times, texts, end);
-            Stop {
-                at: read.at,
-                case: case.with_end(read.n),
-            }
+        b' ' | b':' | b'\n' => case = case.with_field(),
+        b'"' | b'\'' | b'`' | b'#' | b'$' => case.number = b as usize,
+        b'*' => {
+            case.times = case.number;
+            case.number = 0;
         }
-        b'<' => {
-            let read = hex(line, next, case.times, texts, end);
-            Stop {
-                at: read.at,
-                case: case.with_end(read.n),
-            }
+        b',' => {
+            case.first = case.second;
+            case.second = case.third;
         }
-        _ => Stop {
-            at: next,
-            case: mark(b, case),
-        },
-    }
-}
-
-// What a line asks.
-pub fn parse(line: &[u8], texts: &mut [u8]) -> Case {
-    let mut case = Case {
-        numbers: [0; 8],
-        count: 0,
-        ends: [0; 4],
-        last: 0,
-        times: 1,
-    };
-    let mut at = 0;
-    while at < line.len() {
-        let s = take(line, at, case, &mut *texts);
-        at = s.at;
-        case = s.case;
+        b'[' => case.closer = b']',
+        b'<' => case.closer = b'>',
+        _ => {}
     }
     case
 }
 
-// Whether a line begins with a word.
-pub fn begins(line: &[u8], word: &[u8]) -> bool {
-    let mut i = 0;
-    while i < word.len() {
-        if line.len() <= i {
-            return false;
-        }
-        if line[i] != word[i] {
-            return false;
-        }
-        i += 1;
+// The next byte of a line.
+pub fn take(b: u8, mut case: Case, texts: &mut [u8]) -> Case {
+    if case.name < 0x100_0000 {
+        case.name = case.name * 256 + b as usize;
     }
-    true
+    if case.closer != 0 {
+        return piece(b, case, texts);
+    }
+    let d = digit(b);
+    if 10 <= d {
+        return mark(b, case);
+    }
+    if case.number < 1_000_000_000_000 {
+        case.number = case.number * 10 + d;
+    }
+    case
 }

@@ -1,61 +1,51 @@
-// Runs cases and writes their answers. A case is a line of standard input (src/line.rt says how it is written, src/ask.rt what
-// can be asked). The line is written with the answer behind it; a line that is empty or begins with `#` is written as it is.
-// The file stdin has the cases, and the gate holds what is written to the file stdout, which says where each answer comes from.
-ghost use Prim.Native.Nat.{_≤_};
-ghost use lib.ListN.{length};
+// Runs cases and writes their answers. A case is a line of standard input, with its line feed (src/line.rt says how it is
+// written, src/ask.rt what can be asked). The line is written with the answer behind it; a line that is empty or begins with
+// `#` is written as it is. The file stdin has the cases, and the gate holds what is written to the file stdout, which says where
+// each answer comes from.
+use line::Case;
 
 mod ask;
 mod line;
 mod show;
 
-// Where the line ends that begins at an offset.
-fn line_end(input: &[u8], from: usize) -> usize
-    requires { ⌜ from ≤ length (now input) ⌝ }
-    ensures { λ r. ⌜ (from ≤ r) × (r ≤ length (now (input .entry))) ⌝ }
-{
-    let mut at = from;
-    while at < input.len() {
-        if input[at] == b'\n' {
-            return at;
-        }
-        at += 1;
-    }
-    at
-}
-
-// Whether a line asks nothing.
-fn is_remark(line: &[u8]) -> bool {
-    if line.len() == 0 {
-        return true;
-    }
-    line[0] == b'#'
-}
-
-// Writes a line, and behind a case its answer.
-fn replay_line(line: &[u8], texts: &mut [u8], out: &mut [u8]) {
-    show::text(line);
-    if is_remark(line) {
+// Writes what stands behind a line.
+fn finish(case: Case, texts: &[u8]) {
+    let kind = case.name;
+    if kind < line::LEAST {
         return;
     }
-    let case = line::parse(line, texts);
-    show::text(b" =");
-    ask::answer(ask::kind(line), case, texts, out);
+    show::word(show::ANSWER);
+    let mut out = [0u8; 256];
+    let n = ask::room(kind, case, &out);
+    ask::answer(kind, case, texts, &mut out[..n]);
 }
 
-fn replay(input: &[u8], texts: &mut [u8], out: &mut [u8]) {
+// Reads a byte of a line, and behind the last one writes the answer.
+fn turn(b: u8, case: Case, texts: &mut [u8]) -> Case {
+    let case = line::take(b, case, texts);
+    if b != b'\n' {
+        return case;
+    }
+    finish(case, texts);
+    Case::NEW
+}
+
+// Writes the lines of the input, each case with its answer.
+fn replay(input: &[u8], texts: &mut [u8]) {
+    let mut case = Case::NEW;
     let mut at = 0;
     while at < input.len() {
-        let end = line_end(input, at);
-        replay_line(&input[at..end], texts, out);
-        show::text(b"\n");
-        at = end + 1;
+        let b = input[at];
+        case = turn(b, case, &mut *texts);
+        show::byte(b);
+        at += 1;
     }
 }
 
+// The cases stand on standard input.
 fn main() {
     let mut input = io::large_buffer();
     let n = io::read_full(0, &mut input);
     let mut texts = [0u8; 65600];
-    let mut out = [0u8; 256];
-    replay(&input[..n], &mut texts, &mut out);
+    replay(&input[..n], &mut texts);
 }

@@ -3,35 +3,134 @@ use chars::cursor::Cursor;
 use coordinates::Placed;
 use fault::Fault;
 use lent::Written;
-use literal::End;
-use literal::Refusal;
 use literal::Scanned;
 use literal::Terminator;
 use position::Position;
 use token::Lookup;
 
+// The words of the answers, in 13 bytes each. The kinds of identifier::Word are the numbers of their words.
+const WORDS: [u8; 273] = *b"\
+    unknown      \
+    name         \
+    keyword      \
+    symbol       \
+    =            \
+    true         \
+    false        \
+    ok           \
+    none         \
+    -            \
+    token        \
+    reserved     \
+    length       \
+    level        \
+    ends         \
+    record       \
+    refused      \
+    at           \
+    part         \
+    first        \
+    interpolated \
+    ";
+
+pub const UNKNOWN: u8 = 0;
+
+pub const ANSWER: u8 = 4;
+
+const TRUE: u8 = 5;
+
+const FALSE: u8 = 6;
+
+const OK: u8 = 7;
+
+pub const NONE: u8 = 8;
+
+const EMPTY: u8 = 9;
+
+pub const TOKEN: u8 = 10;
+
+pub const LENGTH: u8 = 12;
+
+pub const LEVEL: u8 = 13;
+
+const ENDS: u8 = 14;
+
+const RECORD: u8 = 15;
+
+const REFUSED: u8 = 16;
+
+const AT: u8 = 17;
+
+const PART: u8 = 18;
+
+const FIRST: u8 = 19;
+
+const INTERPOLATED: u8 = 20;
+
+// Bytes as they are.
 pub fn text(bytes: &[u8]) {
     io::write_all(1, bytes);
 }
 
-pub fn labelled(label: &[u8], n: usize) {
-    text(label);
+// One byte as it is.
+pub fn byte(b: u8) {
+    let one = [b];
+    text(&one);
+}
+
+// A word of the list.
+pub fn word(n: u8) {
+    byte(b' ');
+    let words = WORDS;
+    let mut at = 13 * n as usize;
+    while at < 273 {
+        let b = words[at];
+        if b == b' ' {
+            return;
+        }
+        byte(b);
+        at += 1;
+    }
+}
+
+// A number without a space.
+fn decimal(n: usize) {
     io::print_decimal(1, n as u64);
 }
 
-pub fn truth(b: bool) {
-    if b {
-        text(b" true");
-        return;
-    }
-    text(b" false");
+// A number.
+pub fn number(n: usize) {
+    byte(b' ');
+    decimal(n);
 }
 
+// A number with a word before it.
+pub fn labelled(label: u8, n: usize) {
+    word(label);
+    number(n);
+}
+
+// A truth value.
+pub fn truth(b: bool) {
+    if b {
+        word(TRUE);
+        return;
+    }
+    word(FALSE);
+}
+
+// Two hex digits.
 fn hex_byte(b: u8) {
     io::print_hex(1, b as u64, 2);
 }
 
-fn hex(b: &[u8]) {
+// Bytes in hex, `-` for none.
+pub fn bytes(b: &[u8]) {
+    if b.len() == 0 {
+        word(EMPTY);
+        return;
+    }
+    byte(b' ');
     let mut i = 0;
     while i < b.len() {
         hex_byte(b[i]);
@@ -39,80 +138,69 @@ fn hex(b: &[u8]) {
     }
 }
 
-// Bytes in hex, `-` for none.
-pub fn bytes(b: &[u8]) {
-    if b.len() == 0 {
-        text(b" -");
-        return;
-    }
-    text(b" ");
-    hex(b);
-}
-
 // A place as line and column, NONE being 0:0.
 pub fn place(p: Position) {
-    labelled(b" ", p.line_number() as usize);
-    labelled(b":", p.column_number() as usize);
+    number(p.line_number() as usize);
+    byte(b':');
+    decimal(p.column_number() as usize);
 }
 
 // Where a scan stopped.
 pub fn reached(c: Cursor) {
-    labelled(b" ends ", c.at);
+    labelled(ENDS, c.at);
     place(c.place);
 }
 
 // What is on record: how often which character, `-` for nothing.
 fn record(t: Terminator) {
+    word(RECORD);
     if t.times == 0 {
-        text(b" record -");
+        word(EMPTY);
         return;
     }
-    labelled(b" record ", t.times);
+    number(t.times);
     if t.c < 128 {
-        let c = [t.c as u8];
-        text(&c);
+        byte(t.c as u8);
     }
 }
 
+// A refusal's number.
 pub fn refused(n: u8) {
-    labelled(b" refused ", n as usize);
+    labelled(REFUSED, n as usize);
 }
 
 // A fault: its number, the place reported, and the part of the script, offset and length.
 pub fn fault(f: Fault) {
     refused(f.number);
-    text(b" at");
+    word(AT);
     place(f.place);
-    labelled(b" part ", f.part.at);
-    labelled(b" ", f.part.len);
-}
-
-fn refusal(r: Refusal) {
-    fault(r.fault);
-    reached(r.cursor);
-    record(r.on_record);
-}
-
-fn accepted(e: End, body: &[u8]) {
-    text(b" ok");
-    bytes(body);
-    reached(e.cursor);
-    text(b" first");
-    place(e.first);
-    record(e.on_record);
-    if e.interpolated {
-        text(b" interpolated");
-    }
+    labelled(PART, f.part.at);
+    number(f.part.len);
 }
 
 // A literal's scan, with what was lent to it.
 pub fn scanned(s: Scanned, out: &[u8]) {
     match s {
-        Scanned::Accepted(e, n) => accepted(e, crate::line::part(out, 0, n)),
-        Scanned::Refused(r) => refusal(r),
+        Scanned::Accepted(e, n) => {
+            word(OK);
+            bytes(crate::line::part(out, 0, n));
+            reached(e.cursor);
+            word(FIRST);
+            place(e.first);
+            record(e.on_record);
+            if e.interpolated {
+                word(INTERPOLATED);
+            }
+        }
+        Scanned::Refused(r) => {
+            fault(r.fault);
+            reached(r.cursor);
+            record(r.on_record);
+        }
     }
 }
 
+// A place, or why there is none.
 pub fn placed(p: Placed) {
     match p {
         Placed::At(p) => place(p),
@@ -124,17 +212,19 @@ pub fn placed(p: Placed) {
 pub fn written(w: Written, out: &[u8]) {
     match w {
         Written::Done(n) => {
-            text(b" [");
+            byte(b' ');
+            byte(b'[');
             text(crate::line::part(out, 0, n));
-            text(b"]");
+            byte(b']');
         }
         Written::Refused(n) => refused(n),
     }
 }
 
+// A token, where there is one.
 pub fn token(t: Lookup) {
     match t {
-        Lookup::Some(n) => labelled(b" token ", n as usize),
-        Lookup::None => text(b" none"),
+        Lookup::Some(n) => labelled(TOKEN, n as usize),
+        Lookup::None => word(NONE),
     }
 }

@@ -2,6 +2,7 @@
 use mathlib.Core.Path.{sym}
 use native.Mathlib.Omega.{arith}
 use lib.Seq.{length-take-le}
+use borrow.Author.Needs.{needs}
 use Rattle.replay.proofs.ask.room.Statement.{statement}
 use Rattle.replay.proofs.ask.room.Tie as tie
 
@@ -9,5 +10,6 @@ pub room-spec : {M : Type 1} → statement M
 room-spec =
     tie.close
     (tie.spec
+    (λ c κs. search needs)
     (λ c. (omega arith, sym (length-take-le _ _ (omega arith))))
     (λ c. (omega arith, sym (length-take-le _ _ (omega arith)))))

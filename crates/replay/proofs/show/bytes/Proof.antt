@@ -1,27 +1,28 @@
--- The bytes of the word left fall.
+-- Each byte is written once.
 use Prim.Native.Nat.{_-_, _≤_}
 use lib.ListN.{length}
 use borrow.Author.Needs.{needs}
-use Rattle.replay.proofs.line.begins.Statement.{statement}
-use Rattle.replay.proofs.line.begins.Tie as tie
+use Rattle.replay.proofs.show.bytes.Statement.{statement}
+use Rattle.replay.proofs.show.bytes.Tie as tie
 
 abbrev Inv-loop : tie.InvT-loop
-Inv-loop line word i₀ i = i ≤ length word
+Inv-loop b i₀ i = i ≤ length b
 
 abbrev μ-loop : tie.MeasureT-loop
-μ-loop line word i₀ i = length word - i
+μ-loop b i₀ i = length b - i
 
-pub begins-spec : {M : Type 1} → statement M
-begins-spec =
+pub bytes-spec : {M : Type 1} → statement M
+bytes-spec =
     tie.close
     (tie.spec
     Inv-loop
     μ-loop
+    (λ c κs. search needs)
+    (λ c. search needs)
+    (λ c κs. search needs)
     (λ c. search needs)
     (λ c. search needs)
-    (λ c. search needs)
-    (λ c. search needs)
-    (λ c. search needs)
+    (λ c κs. search needs)
     (λ c. search needs)
     (λ c. search needs)
     (λ c. search needs)
