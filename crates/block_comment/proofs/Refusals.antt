@@ -13,8 +13,8 @@ use Rattle.position.specs.declared.Position.{Position}
 use Rattle.position.specs.Place.{onLine}
 use Rattle.utf8.specs.Table.{_‥_, within}
 use Rattle.chars.specs.Cursors.{cursor}
-use Rattle.chars.specs.Door.{doorOf}
-use Rattle.chars.proofs.Doors.{admitted}
+use Rattle.door.specs.Door.{doorOf}
+use Rattle.door.proofs.Doors.{admitted}
 use Rattle.fault.specs.Faults.{fault}
 use Rattle.comment.specs.Block.{commentOf, refusesOf, scanBlockCommentOf}
 use Rattle.comment.specs.declared.Commented.the-variants.{Done, Refused}

@@ -11,7 +11,7 @@ use position::Position;
 fn refuses(text: &[u8], at: usize, place: Position, level: usize) -> u8
     ensures { λ r. ⌜ r ≡ refusesOf (now (text .entry)) at place level ⌝ }
 {
-    let number = chars::door(text, at);
+    let number = door::door(text, at);
     if number != 0 {
         return number;
     }

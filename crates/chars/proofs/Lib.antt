@@ -1,5 +1,4 @@
 pub mod Cursors
 pub mod Scans
 pub mod Follows
-pub mod Doors
 pub mod Reaches

@@ -1,4 +1,4 @@
--- The cursor, which stands in for the Rust's InputStream: `peek_next`, `get_next`, `eat_next_and_advance`, and one character further ahead.
+-- The cursor, which stands in for the Rust's InputStream: `get_next`, `eat_next_and_advance`, and the character after the next one.
 use Prim.Native.Nat.{ℕ, _+_}
 use mathlib.Core.List.{List}
 use Rattle.position.specs.declared.Position.{Position}

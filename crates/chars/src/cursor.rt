@@ -1,7 +1,6 @@
 // The cursor: an offset and a place by value, over a text that is lent at each call. Whoever looks
-// ahead takes from a copy, so there is nothing to unget.
+// ahead takes from a copy, so there is nothing to unget. The next character is `utf8::look_at` at its offset.
 ghost use mathlib.Core.Path.{_≡_};
-ghost use Rattle.utf8.specs.Table.{lookAt};
 ghost use Rattle.chars.specs.Cursors.{peekAfterOf, getNextOf, eatNextOf};
 use position::Position;
 use utf8::Look;
@@ -18,13 +17,6 @@ pub enum Taken {
 }
 
 impl Cursor {
-    // The next character, not taken.
-    pub fn peek_next(self, text: &[u8]) -> Look
-        ensures { λ r. ⌜ r ≡ lookAt (now (text .entry)) (self .at) ⌝ }
-    {
-        utf8::look_at(text, self.at)
-    }
-
     // The character after the next one, not taken.
     pub fn peek_after(self, text: &[u8]) -> Look
         ensures { λ r. ⌜ r ≡ peekAfterOf (now (text .entry)) self ⌝ }

@@ -1,22 +1,2 @@
-// Going through the characters of a lent text: the cursor, the door of every scan, and the driver of every scanner.
-ghost use mathlib.Core.Path.{_≡_};
-ghost use Rattle.chars.specs.Door.{doorOf};
-
+// Going through the characters of a lent text: the cursor, and the driver of every scanner.
 pub mod cursor;
-
-// What every scan of a text from an offset asks first: 0, or the number of the refusal, which is 2
-// before 1 before 3.
-pub fn door(text: &[u8], at: usize) -> u8
-    ensures { λ r. ⌜ r ≡ doorOf (now (text .entry)) at ⌝ }
-{
-    if 16_777_216 < text.len() {
-        return 2;
-    }
-    if formed::check(text) {
-        if formed::is_boundary(text, at) {
-            return 0;
-        }
-        return 3;
-    }
-    1
-}

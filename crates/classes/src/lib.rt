@@ -1,20 +1,7 @@
-// Classes of characters: White_Space, and the ASCII classes that the Rust asks for.
+// Classes of characters: the ASCII classes that the Rust asks for.
 ghost use mathlib.Core.Path.{_≡_};
 ghost use Rattle.classes.specs.Class.{isNumericDigit, isIdFirstAlphabetic, isIdContinue, digitOf};
-ghost use Rattle.classes.specs.White.{isWhite};
 ghost use Rattle.utf8.specs.Table.{_‥_, within};
-
-// White_Space: the single code points of the property file, and its ranges.
-pub fn is_white(c: u32) -> bool
-    ensures { λ r. ⌜ r ≡ isWhite c ⌝ }
-{
-    match c {
-        0x0020 | 0x0085 | 0x00A0 | 0x1680 | 0x2028 | 0x2029 | 0x202F | 0x205F | 0x3000 => true,
-        0x0009..=0x000D => true,
-        0x2000..=0x200A => true,
-        _ => false,
-    }
-}
 
 fn is_within(low: u32, high: u32, c: u32) -> bool
     ensures { λ r. ⌜ r ≡ within (low ‥ high) c ⌝ }

@@ -6,7 +6,7 @@ use Rattle.basis.specs.Words.{word}
 use Rattle.position.specs.Place.{given, advanced, lined, onLine, up}
 use Rattle.utf8.specs.Table.{look, charsFrom, chars, charsAt, wellFrom, well, edge}
 use Rattle.chars.specs.Cursors.{cursor}
-use Rattle.chars.specs.Door.{doorOf}
+use Rattle.door.specs.Door.{doorOf}
 use Rattle.chars.specs.Scan.{run, runAt, widths}
 use Rattle.fault.specs.Faults.{fault}
 use Rattle.comment.specs.Block.{comment, turn, commentOf, refusesOf, scanBlockCommentOf}

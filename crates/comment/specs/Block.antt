@@ -8,7 +8,7 @@ use Rattle.position.specs.declared.Position.{Position}
 use Rattle.position.specs.Place.{none, onLine, advanced, lined}
 use Rattle.utf8.specs.Table.{Ch, _‥_, within}
 use Rattle.chars.specs.Cursors.{cursor}
-use Rattle.chars.specs.Door.{doorOf}
+use Rattle.door.specs.Door.{doorOf}
 use Rattle.chars.specs.Scan.{Turn, go, stop, Rule, follows, widths, runAt}
 use Rattle.chars.specs.declared.cursor.Cursor.{Cursor}
 use Rattle.fault.specs.Faults.{fault}

@@ -11,7 +11,7 @@ use Rattle.utf8.specs.Table.{Ch, lookAt}
 use Rattle.utf8.specs.declared.Look.{Look}
 use Rattle.utf8.specs.declared.Look.the-variants as look
 use Rattle.classes.specs.Class.{isNumericDigit, isIdFirstAlphabetic}
-use Rattle.classes.specs.White.{isWhite}
+use Rattle.white.specs.White.{isWhite}
 use Rattle.chars.specs.Cursors.{cursor}
 use Rattle.chars.specs.Scan.{Turn, go, stop, Rule, runAt}
 use Rattle.chars.specs.declared.cursor.Cursor.{Cursor}

@@ -12,7 +12,7 @@ use Rattle.basis.proofs.Cases.{not-both}
 use Rattle.position.specs.Place.{onLine}
 use Rattle.position.specs.declared.Position.{Position}
 use Rattle.chars.specs.Cursors.{cursor}
-use Rattle.chars.specs.Door.{doorOf}
+use Rattle.door.specs.Door.{doorOf}
 use Rattle.fault.specs.Faults.{fault}
 use Rattle.book.specs.Book.{good, checkOf}
 use Rattle.book.proofs.Checks.{check-good}

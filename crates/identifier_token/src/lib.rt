@@ -11,7 +11,7 @@ use position::Position;
 fn argument(text: &[u8], at: usize, place: Position, book: &[u8]) -> u8
     ensures { λ r. ⌜ r ≡ argumentOf (now (text .entry)) at place (now (book .entry)) ⌝ }
 {
-    let number = chars::door(text, at);
+    let number = door::door(text, at);
     if number != 0 {
         return number;
     }

@@ -5,9 +5,9 @@ use Rattle.position.specs.Place.{none, isNone, up, advanced, lined, rewound, or
 use Rattle.utf8.specs.Table.{look, lookAt, charsFrom, chars, charsAt, wellFrom, well, edge}
 use Rattle.utf8.specs.Encode.{isScalar, encode, encoded}
 use Rattle.classes.specs.Class.{digitOf}
-use Rattle.classes.specs.White.{isWhite}
+use Rattle.white.specs.White.{isWhite}
 use Rattle.chars.specs.Cursors.{getNextOf, eatNextOf}
-use Rattle.chars.specs.Door.{doorOf}
+use Rattle.door.specs.Door.{doorOf}
 use Rattle.chars.specs.Scan.{run, runAt, widths}
 use Rattle.literal.specs.Trace.{yields, bytes, passes}
 use Rattle.literal.specs.Cut.{cut, wrote}

@@ -15,7 +15,7 @@ use Rattle.utf8.proofs.Edges.{boundary-low}
 use Rattle.utf8.proofs.Unicode.{well-encoded}
 use Rattle.chars.specs.Cursors.{cursor}
 use Rattle.chars.specs.Scan.{runAt}
-use Rattle.chars.proofs.Doors.{let-in}
+use Rattle.door.proofs.Doors.{let-in}
 use Rattle.literal.specs.Trace.{Trace, bytes, passes}
 use Rattle.literal.specs.Cut.{answer, wrote}
 use Rattle.literal.specs.Told.{told}

@@ -13,9 +13,9 @@ use Rattle.position.specs.declared.Position.{Position}
 use Rattle.position.specs.Place.{onLine}
 use Rattle.utf8.specs.Table.{_‥_, within, chars, well, edge}
 use Rattle.chars.specs.Cursors.{cursor}
-use Rattle.chars.specs.Door.{doorOf}
+use Rattle.door.specs.Door.{doorOf}
 use Rattle.chars.specs.declared.cursor.Cursor.{Cursor}
-use Rattle.chars.proofs.Doors.{admitted}
+use Rattle.door.proofs.Doors.{admitted}
 use Rattle.literal.specs.Trace.{Trace, fails}
 use Rattle.literal.specs.Cut.{cut, wrote}
 use Rattle.literal.specs.declared.Refusal.{Refusal}

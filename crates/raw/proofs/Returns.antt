@@ -8,7 +8,7 @@ use Rattle.position.specs.Place.{none, isNone, given, onLine, orElse, advanced,
 use Rattle.utf8.specs.Table.{look, charsFrom, chars, charsAt, wellFrom, well, edge}
 use Rattle.utf8.specs.Encode.{encode}
 use Rattle.chars.specs.Cursors.{cursor}
-use Rattle.chars.specs.Door.{doorOf}
+use Rattle.door.specs.Door.{doorOf}
 use Rattle.chars.specs.Scan.{run, runAt}
 use Rattle.fault.specs.Faults.{part, fault, unterminatedString, unexpectedInput}
 use Rattle.fault.specs.declared.Fault.{Fault}

@@ -36,7 +36,7 @@ use Rattle.position.specs.declared.Position.{Position}
 use Rattle.position.specs.Place.{onLine}
 use Rattle.utf8.specs.Table.{_‥_, within}
 use Rattle.chars.specs.Cursors.{cursor}
-use Rattle.chars.specs.Door.{doorOf}
+use Rattle.door.specs.Door.{doorOf}
 use Rattle.chars.specs.declared.cursor.Cursor.{Cursor}
 use Rattle.literal.specs.Trace.{Trace, fails}
 use Rattle.literal.specs.Cut.{cut}

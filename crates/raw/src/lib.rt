@@ -49,7 +49,7 @@ fn scan(text: &[u8], start: Cursor, hashes: usize, limit: usize, out: &mut [u8])
 fn enters(text: &[u8], start: Cursor) -> u8
     ensures { λ r. ⌜ r ≡ entersOf (now (text .entry)) start ⌝ }
 {
-    let number = chars::door(text, start.at);
+    let number = door::door(text, start.at);
     if number != 0 {
         return number;
     }

@@ -209,7 +209,7 @@ fn of_numbers(kind: usize, case: Case) {
     match kind {
         ADVANCE | REWIND | NEWLINE | SUM => show::placed(moved(kind, case.place(1), case.place(4))),
         PRECEDENCE => show::number(precedence::precedence(case.token(1)) as usize),
-        WHITE => show::truth(classes::is_white(case.code(1))),
+        WHITE => show::truth(white::is_white(case.code(1))),
         _ => show::token(partner(kind, case.token(1))),
     }
 }

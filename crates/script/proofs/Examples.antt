@@ -8,7 +8,7 @@ use Rattle.position.specs.Place.{place, none, start, isNone, up, advanced, line
 use Rattle.utf8.specs.Table.{look, lookAt, charsFrom, chars, charsAt, wellFrom, well, edge}
 use Rattle.utf8.specs.Encode.{isScalar, encode, encoded}
 use Rattle.classes.specs.Class as Class
-use Rattle.classes.specs.White.{isWhite}
+use Rattle.white.specs.White.{isWhite}
 use Rattle.chars.specs.Cursors.{getNextOf, eatNextOf}
 use Rattle.chars.specs.Scan.{run, runAt, widths}
 use Rattle.fault.specs.Faults.{fault}

@@ -7,7 +7,7 @@ use lib.ListN.{length}
 use Rattle.basis.specs.Pick.{pick, isnt}
 use Rattle.position.specs.Place.{advanced}
 use Rattle.utf8.specs.Table.{chars}
-use Rattle.classes.specs.White.{isWhite}
+use Rattle.white.specs.White.{isWhite}
 use Rattle.chars.specs.declared.cursor.Cursor.{Cursor}
 use Rattle.fault.specs.declared.Fault.{Fault}
 use Rattle.fault.specs.Faults.{part, stillOpen, notOneCharacter, tooDeep}

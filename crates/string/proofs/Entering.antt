@@ -7,7 +7,7 @@ use lib.ListN.{length}
 use borrow.Author.Tests.{eq-eqb, ne-eqb}
 use Rattle.basis.specs.Store.{over}
 use Rattle.position.specs.declared.Position.{Position}
-use Rattle.classes.specs.White.{isWhite}
+use Rattle.white.specs.White.{isWhite}
 use Rattle.chars.specs.Cursors.{cursor}
 use Rattle.literal.specs.Trace.{Trace, bytes}
 use Rattle.literal.specs.Cut.{cut, wrote}

@@ -12,8 +12,8 @@ use Rattle.position.specs.declared.Position.{Position}
 use Rattle.position.specs.Place.{onLine, beginsLine}
 use Rattle.utf8.specs.Table.{chars, well, edge}
 use Rattle.chars.specs.Cursors.{cursor}
-use Rattle.chars.specs.Door.{doorOf}
-use Rattle.classes.specs.White.{isWhite}
+use Rattle.door.specs.Door.{doorOf}
+use Rattle.white.specs.White.{isWhite}
 use Rattle.literal.specs.Trace.{bytes, final, good, passes}
 use Rattle.literal.specs.Cut.{answer}
 use Rattle.literal.specs.Told.{number}

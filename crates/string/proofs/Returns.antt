@@ -12,9 +12,9 @@ use Rattle.utf8.specs.Encode.{isScalar, encode, encoded}
 use Rattle.fault.specs.declared.Part.{Part}
 use Rattle.fault.specs.Faults.{part, fault, faultIn}
 use Rattle.classes.specs.Class.{digitOf}
-use Rattle.classes.specs.White.{isWhite}
+use Rattle.white.specs.White.{isWhite}
 use Rattle.chars.specs.Cursors.{cursor, getNextOf, eatNextOf}
-use Rattle.chars.specs.Door.{doorOf}
+use Rattle.door.specs.Door.{doorOf}
 use Rattle.chars.specs.Scan.{run, runAt}
 use Rattle.literal.specs.Trace.{yields, bytes, passes}
 use Rattle.literal.specs.Cut.{cut}

@@ -25,8 +25,8 @@ use Rattle.basis.specs.Pick.{pick}
 use Rattle.position.specs.declared.Position.{Position}
 use Rattle.position.specs.Place.{onLine, beginsLine}
 use Rattle.chars.specs.Cursors.{cursor}
-use Rattle.chars.specs.Door.{doorOf}
-use Rattle.classes.specs.White.{isWhite}
+use Rattle.door.specs.Door.{doorOf}
+use Rattle.white.specs.White.{isWhite}
 use Rattle.literal.specs.Trace.{Trace, fails}
 use Rattle.literal.specs.Cut.{cut}
 use Rattle.literal.specs.declared.Scanned.{Scanned}

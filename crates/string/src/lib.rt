@@ -61,7 +61,7 @@ fn start_number(p: Position, q: u32) -> u8
 fn argument_number(text: &[u8], at: usize, p: Position, q: u32) -> u8
     ensures { λ r. ⌜ r ≡ argumentOf (now (text .entry)) at p q ⌝ }
 {
-    let d = chars::door(text, at);
+    let d = door::door(text, at);
     if d == 0 {
         return start_number(p, q);
     }

@@ -2,7 +2,7 @@
 // caller makes.
 ghost use mathlib.Core.Path.{_≡_};
 ghost use Prim.Native.Nat.{_-_, _≤_};
-ghost use Rattle.classes.specs.White.{isWhite};
+ghost use Rattle.white.specs.White.{isWhite};
 ghost use Rattle.fault.specs.Faults.{part};
 ghost use Rattle.string_take.specs.Kinds.{isVerbatim, isContinued};
 ghost use Rattle.string_take.specs.Endings.{unterminatedAt, malformedAt};
@@ -238,7 +238,7 @@ fn add(c: u32, at: usize, s: State) -> Step
     ensures { λ r. ⌜ r ≡ addOf isWhite c at s ⌝ }
 {
     let next = settled(s.place, s.first, 0);
-    if classes::is_white(c) {
+    if white::is_white(c) {
         if column(s.place) < s.skip {
             return Step::Go(NOTHING, at, s);
         }

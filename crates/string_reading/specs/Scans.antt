@@ -7,7 +7,7 @@ use Rattle.position.specs.declared.Position.{Position}
 use Rattle.position.specs.Place.{none}
 use Rattle.utf8.specs.Table.{Ch, charsAt}
 use Rattle.utf8.specs.Encode.{encoded}
-use Rattle.classes.specs.White.{isWhite}
+use Rattle.white.specs.White.{isWhite}
 use Rattle.chars.specs.Scan.{Turn, go, stop, Rule, runAt}
 use Rattle.chars.specs.declared.cursor.Cursor.{Cursor}
 use Rattle.literal.specs.Trace.{Trace, checks, Yield, added, tested, yields}

@@ -1,7 +1,7 @@
 // The scan of a string literal: the Rust's `parse_string_literal` with nothing written.
 ghost use mathlib.Core.Path.{_≡_};
 ghost use lib.ListN.{length};
-ghost use Rattle.classes.specs.White.{isWhite};
+ghost use Rattle.white.specs.White.{isWhite};
 ghost use Rattle.utf8.specs.Encode.{encoded};
 ghost use Rattle.literal.specs.Cut.{cut};
 ghost use Rattle.literal.specs.declared.Scanned.the-variants.{Refused};

@@ -9,7 +9,7 @@ use Rattle.basis.specs.Store.{stored, after, over, Stored}
 use Rattle.basis.proofs.Stores.{whole, sets-append, sets-front}
 use Rattle.position.specs.declared.Position.{Position}
 use Rattle.utf8.specs.Encode.{encoded}
-use Rattle.classes.specs.White.{isWhite}
+use Rattle.white.specs.White.{isWhite}
 use Rattle.chars.specs.declared.cursor.Cursor.{Cursor}
 use Rattle.literal.specs.Trace.{Trace, bytes}
 use Rattle.string_take.specs.Turns.{takeOf}

@@ -3,7 +3,7 @@ ghost use mathlib.Core.Path.{_≡_};
 ghost use Prim.Native.Nat.{_≤_};
 ghost use lib.ListN.{length};
 ghost use Rattle.basis.specs.Store.{over};
-ghost use Rattle.classes.specs.White.{isWhite};
+ghost use Rattle.white.specs.White.{isWhite};
 ghost use Rattle.literal.specs.Trace.{bytes};
 ghost use Rattle.string_reading.specs.Scans.{begun, readingOf};
 use chars::cursor::Cursor;

@@ -10,7 +10,7 @@ enum Property {
 
 fn has(property: Property, c: u32) -> bool {
     match property {
-        Property::WhiteSpace => classes::is_white(c),
+        Property::WhiteSpace => white::is_white(c),
         Property::Surrogate => !utf8::is_scalar(c),
     }
 }

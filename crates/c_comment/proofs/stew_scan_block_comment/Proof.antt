@@ -13,8 +13,10 @@ returns-2 c =
     let written = c .before .before in
     let row = written .before .before .before in
     let scan = row .before in
-    let is = row-is _ _ _ _ _ (scan .before .given .ensures) (scan .scan-block-comment .ensures) (row .row-of .ensures .0) in
-    (rw is (long-returns 4 _ _ (row-long _ _ _ _ _) (scan .before .before .if1 .left)), rw (← is) (written .write-row .ensures .1))
+    let start = scan .before .before in
+    let args = start .before .before .before .args in
+    let is = row-is _ _ (args .line) (args .column) _ (scan .before .given .ensures) (scan .scan-block-comment .ensures) (row .row-of .ensures .0) in
+    (rw is (long-returns 4 _ _ (row-long _ _ _ _ _) (start .if1 .left)), rw (← is) (written .write-row .ensures .1))
 
 pub stew-scan-block-comment-spec : {M : Type 1} → statement M
 stew-scan-block-comment-spec =

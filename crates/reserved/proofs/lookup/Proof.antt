@@ -8,6 +8,6 @@ pub lookup-spec : {M : Type 1} → statement M
 lookup-spec = tie.close
     (tie.spec
     (λ c κs. search needs)
-    (λ c. search bad-says-nothing)
+    (λ c. bad-says-nothing _ _ _ (c .before .check .ensures) (c .if1 .taken))
     (λ c κs. search needs)
-    (λ c. search good-says))
+    (λ c. good-says _ _ _ (c .before .before .check .ensures) _ (c .before .if1 .left) (c .lookup-in .ensures)))

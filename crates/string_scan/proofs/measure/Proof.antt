@@ -12,6 +12,32 @@ Inv-loop text from q limit room start at₀ s₀ n₀ at s n = Measured text fro
 abbrev μ-loop : tie.MeasureT-loop
 μ-loop text from q limit room start at₀ s₀ n₀ at s n = length text - at
 
+returns : tie.Need-returns Inv-loop μ-loop
+returns c =
+    let found = c .before in
+    let turn = found .before .before in
+    measured-over _ _ _ _ _ (turn .before .loop .inv) (turn .turn .ensures) (found .r .given .1)
+
+returns-2 : tie.Need-returns-2 Inv-loop μ-loop
+returns-2 c =
+    let size = c .before .before in
+    let found = size .before .before in
+    let turn = found .before .before in
+    measured-full _ _ _ _ _ (turn .before .loop .inv) (turn .turn .ensures) (found .d .given .1) (size .size .ensures) (c .before .if1 .taken) (c .full .ensures)
+
+loop-less : tie.Need-loop-less Inv-loop μ-loop
+loop-less c =
+    let found = c .before .before .before in
+    let turn = found .before .before in
+    measured-less _ _ _ _ _ (turn .before .loop .inv) (turn .turn .ensures) (found .d .given .1)
+
+loop-again : tie.Need-loop-again Inv-loop μ-loop
+loop-again c =
+    let size = c .before in
+    let found = size .before .before in
+    let turn = found .before .before in
+    measured-more _ _ _ _ _ (turn .before .loop .inv) (turn .turn .ensures) (found .d .given .1) (size .size .ensures) (c .if1 .left)
+
 pub measure-spec : {M : Type 1} → statement M
 measure-spec =
     tie.close
@@ -19,15 +45,15 @@ measure-spec =
     Inv-loop
     μ-loop
     (λ c κs. search needs)
-    (λ c. search measured-start)
+    (λ c. measured-start _ _ _ _ _ (c .begun .ensures))
     (λ c κs. search needs)
     (λ c. search needs)
-    (λ c. search measured-over)
+    returns
     (λ c. search needs)
     (λ c κs. search needs)
     (λ c. search needs)
     (λ c κs. search needs)
-    (λ c. search measured-full)
+    returns-2
     (λ c. search needs)
-    (λ c. search measured-less)
-    (λ c. search measured-more))
+    loop-less
+    loop-again)

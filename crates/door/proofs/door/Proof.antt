@@ -1,9 +1,9 @@
 -- The questions of the definition, in its order; where characters begin is asked of one byte.
 use mathlib.Core.Path.{sym, _∙_}
 use borrow.Author.Needs.{needs}
-use Rattle.chars.proofs.Doors.{too-long, not-utf8, let-in, not-there}
-use Rattle.chars.proofs.door.Statement.{statement}
-use Rattle.chars.proofs.door.Tie as tie
+use Rattle.door.proofs.Doors.{too-long, not-utf8, let-in, not-there}
+use Rattle.door.proofs.door.Statement.{statement}
+use Rattle.door.proofs.door.Tie as tie
 
 returns-2 : tie.Need-returns-2
 returns-2 c =

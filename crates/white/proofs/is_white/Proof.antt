@@ -1,8 +1,8 @@
 -- A single code point is found by the arm that has it; any other is white if it lies in a range.
 use native.Mathlib.Omega.{arith}
-use Rattle.classes.proofs.Whites.{control, space, separator, single, none}
-use Rattle.classes.proofs.is_white.Statement.{statement}
-use Rattle.classes.proofs.is_white.Tie as tie
+use Rattle.white.proofs.Whites.{control, space, separator, single, none}
+use Rattle.white.proofs.is_white.Statement.{statement}
+use Rattle.white.proofs.is_white.Tie as tie
 
 -- before the ranges, between them and behind them
 returns-3 : tie.Need-returns-3

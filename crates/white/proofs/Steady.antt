@@ -10,7 +10,7 @@ use borrow.Author.Tests.{le-leb, lt-leb, leb-true}
 use Rattle.basis.specs.Pick.{both, either}
 use Rattle.basis.proofs.Cases.{true-left, true-right, both-no}
 use Rattle.utf8.specs.Table.{Range, within}
-use Rattle.classes.specs.White.{among}
+use Rattle.white.specs.White.{among}
 
 -- the range lies above the interval, below it, or around it
 abbrev pub clear : Range → ℕ → ℕ → Bool

@@ -12,8 +12,8 @@ use Rattle.basis.specs.Pick.{either}
 use Rattle.basis.proofs.Bounds.{split}
 use Rattle.utf8.specs.Table.{Range, within}
 use Rattle.utf8.proofs.Ranges.{within-low, within-high}
-use Rattle.classes.specs.White.{among, whites, isWhite}
-use Rattle.classes.proofs.Steady.{steady, among-steady}
+use Rattle.white.specs.White.{among, whites, isWhite}
+use Rattle.white.proofs.Steady.{steady, among-steady}
 
 -- no entry begins or ends between l and u: what holds of l holds of c
 steadily : (c l u : ℕ) → l ≤ c → c < u → T (steady whites l u) → among whites l ≡ among whites c

@@ -10,7 +10,7 @@ use borrow.Author.Tests.{lt-ltb, le-ltb, ltb-false}
 use Rattle.basis.specs.Pick.{pick}
 use Rattle.utf8.specs.Table.{chars, well, edge, boundary}
 use Rattle.utf8.proofs.Edges.{boundary-edge, edge-within}
-use Rattle.chars.specs.Door.{doorOf}
+use Rattle.door.specs.Door.{doorOf}
 
 module _ (t : List ℕ) (at : ℕ) where
   pub too-long : 16777216 < length t → doorOf t at ≡ 2
