@@ -19,6 +19,7 @@ use Rattle.string_act.specs.Turns.{columnOf, closeOf, lineFeedOf, escapeOf, add
 use Rattle.string_reading.specs.Ends.{argumentAt, tooLongAt, fullAt, lastOf}
 use Rattle.string_reading.specs.Scans as StringScan
 use Rattle.string.specs.Scans as String
+use Rattle.raw_open.specs.Opening as RawOpen
 use Rattle.raw_scan.specs.Raw as RawScan
 use Rattle.raw.specs.Raw as Raw
 use Rattle.lent.specs.Written.{writtenOf, leftOf}
@@ -28,5 +29,5 @@ use Rattle.comment.specs.Block as Block
 use Rattle.promises.specs.Table.{Checked-examples}
 
 pub checked-examples : Checked-examples
-unfolding word none isNone up advanced lined rewound orElse onLine beginsLine columnNumber look lookAt charsFrom chars charsAt wellFrom well edge isScalar encode encoded digitOf isWhite getNextOf eatNextOf doorOf run runAt widths yields bytes passes cut wrote letterOf digitsAfter digitsFrom numberOf escapedOf isVerbatim isContinued isInterpolated unterminatedAt malformedAt isEmpty columnOf nextIs endOf dollarOf takeOf closeOf lineFeedOf escapeOf addOf plainOf otherOf matchOf actOf argumentAt tooLongAt fullAt lastOf StringScan.turnOf StringScan.rule StringScan.begun StringScan.readingOf String.startOf String.argumentOf String.traceOf String.scanOf RawScan.heldBack RawScan.placed RawScan.openingTurn RawScan.readingTurn RawScan.atEnd RawScan.turn RawScan.readOf Raw.traceOf Raw.entersOf Raw.resumesOf Raw.parseTrace Raw.parseOf Raw.resumeTrace Raw.resumeOf writtenOf leftOf fits stored after hashesAhead mostAfterQuote hashesFor literalOf refusesOf rawWriteOf rawLeftOf Block.turn Block.commentOf Block.refusesOf Block.scanBlockCommentOf
+unfolding word none isNone up advanced lined rewound orElse onLine beginsLine columnNumber look lookAt charsFrom chars charsAt wellFrom well edge isScalar encode encoded digitOf isWhite getNextOf eatNextOf doorOf run runAt widths yields bytes passes cut wrote letterOf digitsAfter digitsFrom numberOf escapedOf isVerbatim isContinued isInterpolated unterminatedAt malformedAt isEmpty columnOf nextIs endOf dollarOf takeOf closeOf lineFeedOf escapeOf addOf plainOf otherOf matchOf actOf argumentAt tooLongAt fullAt lastOf StringScan.turnOf StringScan.rule StringScan.begun StringScan.readingOf String.startOf String.argumentOf String.traceOf String.scanOf RawOpen.cutOff RawOpen.openingTurn RawOpen.openedOf RawScan.heldBack RawScan.placed RawScan.atEnd RawScan.turn RawScan.bodyOf RawScan.readOf Raw.traceOf Raw.entersOf Raw.resumesOf Raw.parseTrace Raw.parseOf Raw.resumeTrace Raw.resumeOf writtenOf leftOf fits stored after hashesAhead mostAfterQuote hashesFor literalOf refusesOf rawWriteOf rawLeftOf Block.turn Block.commentOf Block.refusesOf Block.scanBlockCommentOf
 checked-examples = refl

@@ -12,7 +12,7 @@ use borrow.Author.Tests.{eqb-true, eqb-false, lt-ltb, le-ltb}
 use Rattle.basis.proofs.Bounds.{split}
 use Rattle.basis.proofs.Cases.{both-left, both-right, both-no}
 use Rattle.position.specs.declared.Position.{Position}
-use Rattle.position.specs.Place.{none, isNone, onLine, orElse, advanced, lined}
+use Rattle.position.specs.Place.{isNone, onLine, orElse, advanced, lined}
 use Rattle.position.proofs.Moves.{advanced-on, on-some}
 use Rattle.utf8.specs.Table.{look, lookAt}
 use Rattle.utf8.specs.Encode.{isScalar, encode, encodeAll, allScalar}
@@ -26,11 +26,12 @@ use Rattle.chars.proofs.Cursors.{ate}
 use Rattle.chars.proofs.Scans.{move-over}
 use Rattle.literal.specs.Trace.{Trace, ends, bytes, final, good}
 use Rattle.literal.specs.declared.End.{End}
-use Rattle.raw_scan.specs.Raw.{lf, asSource, nothing, ended, body, reading, rule}
-use Rattle.raw_scan.specs.Step.{Adds, leftOf}
-use Rattle.raw_scan.specs.declared.Body.{Body}
+use Rattle.raw_open.specs.Opening.{nothing}
+use Rattle.raw_open.specs.declared.Opened.the-variants.{At}
+use Rattle.raw_open.proofs.Openings.{counting, hash-on, quote-on}
+use Rattle.raw_scan.specs.Raw.{lf, asSource, ended, Body, body, rule}
+use Rattle.raw_scan.specs.Step.{Adds}
 use Rattle.raw_scan.proofs.Loops.{went-on}
-use Rattle.raw_scan.proofs.Openings.{counting, hash-on, quote-on}
 use Rattle.raw_scan.proofs.Turns.{quote-adds, hash-closes, hash-adds, line-adds, plain-adds, failed-adds}
 use Rattle.writer.specs.Writer.{quote, hash, hashesAhead, mostAfterQuote}
 use Rattle.writer.proofs.Hashes.{byte-cases, reach}
@@ -61,15 +62,15 @@ module _ (t : List ℕ) (at : ℕ) where
 
 -- ---- the opening: m hashes more and a quote
 pub opens : (t : List ℕ) (start : Position) (m k at : ℕ) (p : Position) (l : List ℕ) → drop at t ≡ replicate m hash ++ quote ∷ l
-    → counting asSource start t k (cursor at p) ≡ runAt (rule asSource start) t (at + suc m) (reading (k + m) (body 0 (columns (suc m) p) none))
-unfolding columns leftOf
+    → counting start t k (cursor at p) ≡ At (k + m) (cursor (at + suc m) (columns (suc m) p))
+unfolding columns
 opens t start zero k at p l e =
     let z : k + 0 ≡ k = omega arith in
-    rw z (quote-on asSource start t k (cursor at p) (eats-quote t at p l e) refl)
+    rw z (quote-on start t k (cursor at p) (eats-quote t at p l e) refl)
 opens t start (suc m) k at p l e =
     let z : k + suc m ≡ k + 1 + m = omega arith in
     let y : at + suc (suc m) ≡ at + 1 + suc m = omega arith in
-    rw (z, y) (hash-on asSource start t k (cursor at p) (eats-hash t at p (replicate m hash ++ quote ∷ l) e) refl
+    rw (z, y) (hash-on start t k (cursor at p) (eats-hash t at p (replicate m hash ++ quote ∷ l) e) refl
     ∙ opens t start m (k + 1) (at + 1) (advanced p) l (one-further t at hash (replicate m hash ++ quote ∷ l) e))
 
 -- ---- a reading of the body
@@ -91,7 +92,7 @@ reach-some (suc n) cs h = refl
 
 module _ (t : List ℕ) (start : Position) (k : ℕ) where
   abbrev rest : ℕ → Body → Trace
-  rest at s = runAt (rule asSource start) t at (reading k s)
+  rest at s = runAt (rule asSource start k) t at s
 
   -- a step that adds n bytes, before the rest
   step-on : {at : ℕ} {s : Body} {n next : ℕ} {r : Body} {m : ℕ} {e : End} → Adds asSource t k at s n next r → Reads (rest next r) m e → Reads (rest at s) (n + m) e
@@ -101,15 +102,15 @@ module _ (t : List ℕ) (start : Position) (k : ℕ) where
       record { size = rw w (length-append (a .bytes) (bytes (rest next r)) ∙ rw (a .count, i .size)); ends = rw w (i .ends) }
 
   -- the closing hashes: one is the k-th of the attempt, j hashes on
-  closes : (j at : ℕ) (s : Body) (l : List ℕ) → 0 < s .held → s .held + j ≡ k → s .held ≤ at → isNone (s .first) ≡ false → drop at t ≡ replicate (suc j) hash ++ l
+  closes : (j at : ℕ) (s : Body) (l : List ℕ) → 0 < s .held → s .held + j ≡ k → isNone (s .first) ≡ false → drop at t ≡ replicate (suc j) hash ++ l
       → Reads (rest at s) 0 (ended (cursor (at + suc j) (columns (suc j) (s .place))) (s .first) nothing)
   unfolding columns bytes final
-  closes zero at s l z n h f e =
-      let o = move-over (rule asSource start) t at (reading k s) (hash-closes asSource t k at s (eats-hash t at (s .place) l e) refl z (omega arith) start) in
+  closes zero at s l z n f e =
+      let o = move-over (rule asSource start k) t at s (hash-closes asSource t k at s (eats-hash t at (s .place) l e) refl z (omega arith) start) in
       record { size = rw o; ends = rw o }
-  closes (suc j) at s l z n h f e =
-      let a = hash-adds asSource t k at s (eats-hash t at (s .place) (replicate (suc j) hash ++ l) e) refl z (λ q. omega arith) h in
-      let i = closes j (at + 1) (body (s .held + 1) (advanced (s .place)) (s .first)) l (omega arith) (omega arith) (omega arith) f (one-further t at hash (replicate (suc j) hash ++ l) e) in
+  closes (suc j) at s l z n f e =
+      let a = hash-adds asSource t k at s (eats-hash t at (s .place) (replicate (suc j) hash ++ l) e) refl z (λ q. omega arith) in
+      let i = closes j (at + 1) (body (s .held + 1) (advanced (s .place)) (s .first)) l (omega arith) (omega arith) f (one-further t at hash (replicate (suc j) hash ++ l) e) in
       let y : at + suc (suc j) ≡ at + 1 + suc j = omega arith in
       rw y (step-on (rw (stays (s .first) (advanced (s .place)) f) at a) i)
 
@@ -120,7 +121,6 @@ module _ (t : List ℕ) (start : Position) (k : ℕ) where
     adds : Adds asSource t k at s added (at + length (encode c)) (body held (behindChar (ltb 0 (s .held)) c (s .place)) (orElse (s .first) (behindChar (ltb 0 (s .held)) c (s .place))))
     balance : added + held ≡ s .held + length (encode c)
     attempt : attempts (ltb 0 (s .held)) c ≡ ltb 0 held
-    short : held ≤ at + length (encode c)
     reaches : reach held cs ≤ k
     mosts : mostAfterQuote cs < k
 
@@ -129,7 +129,7 @@ module _ (t : List ℕ) (start : Position) (k : ℕ) where
       eatNextOf t (cursor at (s .place)) ≡ taken.Char c (cursor (at + length (encode c)) (advanced (s .place)))
       → reach (s .held) (encode c ++ cs) ≤ k → mostAfterQuote (encode c ++ cs) < k → Goes at s c cs
 
-  module _ (at : ℕ) (s : Body) (cs : List ℕ) (room : s .held ≤ at) where
+  module _ (at : ℕ) (s : Body) (cs : List ℕ) where
     at-quote : Taken at s cs quote
     unfolding behindChar mostAfterQuote reach
     at-quote e r m =
@@ -141,7 +141,6 @@ module _ (t : List ℕ) (start : Position) (k : ℕ) where
           adds = quote-adds asSource t k at s e refl;
           balance = omega arith;
           attempt = refl;
-          short = omega arith;
           reaches = omega arith;
           mosts = omega arith;
         }
@@ -160,7 +159,6 @@ module _ (t : List ℕ) (start : Position) (k : ℕ) where
           adds = plain-adds asSource t k at s e (λ q. omega arith) (omega arith) refl (λ q. omega arith);
           balance = omega arith;
           attempt = rw (le-ltb 0 (s .held) (omega arith));
-          short = omega arith;
           reaches = rw (reach-none 0 cs (omega arith)) (omega arith);
           mosts = m′;
         })
@@ -168,10 +166,9 @@ module _ (t : List ℕ) (start : Position) (k : ℕ) where
         record {
           added = 0;
           held = s .held + 1;
-          adds = hash-adds asSource t k at s e refl z (λ q. omega arith) room;
+          adds = hash-adds asSource t k at s e refl z (λ q. omega arith);
           balance = omega arith;
           attempt = rw (lt-ltb 0 (s .held) z, lt-ltb 0 (s .held + 1) (omega arith));
-          short = omega arith;
           reaches = rw (reach-some (s .held + 1) cs (omega arith)) (omega arith);
           mosts = m′;
         })
@@ -187,7 +184,6 @@ module _ (t : List ℕ) (start : Position) (k : ℕ) where
         adds = subst (λ (x : Position). Adds asSource t k at s n (at + length (encode c)) (body 0 x (orElse (s .first) x))) z a;
         balance = omega arith;
         attempt = rw (q, h, both-no (ltb 0 (s .held)));
-        short = omega arith;
         reaches = rw (reach-none 0 cs (omega arith)) (omega arith);
         mosts = rw (other-most c q h cs) at m;
       }
@@ -209,8 +205,8 @@ module _ (t : List ℕ) (start : Position) (k : ℕ) where
               kept (advanced (s .place)) (sym (behind-other c (s .place) (ltb 0 (s .held)) (eqb-false c lf y))) (at + length (encode c) - at) (omega arith)
               (plain-adds asSource t k at s e (eqb-false c quote q) z refl (eqb-false c lf y)) m
 
-  goes : (at : ℕ) (s : Body) (cs : List ℕ) (c : ℕ) → s .held ≤ at → Taken at s cs c
-  goes at s cs c h = byte-cases (Taken at s cs) c (at-quote at s cs h) (at-hash at s cs h) (at-other at s cs h c)
+  goes : (at : ℕ) (s : Body) (cs : List ℕ) (c : ℕ) → Taken at s cs c
+  goes at s cs c = byte-cases (Taken at s cs) c (at-quote at s cs) (at-hash at s cs) (at-other at s cs c)
 
   -- what is to be shown of a body of characters, in a state at an offset
   abbrev Read : List ℕ → ℕ → Body → Type 0
@@ -227,7 +223,7 @@ module _ (t : List ℕ) (start : Position) (k : ℕ) where
       let u = on-some p (advanced-on (s .place) ∙ o) in
       let j : suc (k - 1) ≡ k = omega arith in
       let d : drop (at + 1) t ≡ replicate (suc (k - 1)) hash ++ l = one-further t at quote (replicate k hash ++ l) e ∙ ap (λ (n : ℕ). replicate n hash ++ l) (sym j) in
-      let i = closes (k - 1) (at + 1) (body 1 p (orElse (s .first) p)) l (omega arith) (omega arith) (omega arith) (is-set (s .first) p u) d in
+      let i = closes (k - 1) (at + 1) (body 1 p (orElse (s .first) p)) l (omega arith) (omega arith) (is-set (s .first) p u) d in
       let n : at + 0 + suc k ≡ at + 1 + k = omega arith in
       rw n (step-on (quote-adds asSource t k at s (eats-quote t at (s .place) (replicate k hash ++ l) e) refl) (rw j at i))
 
@@ -244,14 +240,14 @@ module _ (t : List ℕ) (start : Position) (k : ℕ) where
 
   -- a body that nothing in it closes, and the quote and k hashes that do
   pub reads : (cs : List ℕ) (at : ℕ) (s : Body) (l : List ℕ) → allScalar cs ≡ true → drop at t ≡ encodeAll cs ++ (quote ∷ replicate k hash ++ l)
-      → s .held ≤ at → onLine (s .place) ≡ true → reach (s .held) (encodeAll cs) ≤ k → mostAfterQuote (encodeAll cs) < k → Read cs at s
+      → onLine (s .place) ≡ true → reach (s .held) (encodeAll cs) ≤ k → mostAfterQuote (encodeAll cs) < k → Read cs at s
   unfolding encodeAll allScalar
-  reads [] at s l y e h o r m = closed at s l (omega (arith, m)) o e
-  reads (c ∷ cs) at s l y e h o r m =
+  reads [] at s l y e o r m = closed at s l (omega (arith, m)) o e
+  reads (c ∷ cs) at s l y e o r m =
       let tail : List ℕ = encodeAll cs ++ (quote ∷ replicate k hash ++ l) in
       let a : drop at t ≡ encode c ++ tail = e ∙ append-assoc (encode c) (encodeAll cs) (quote ∷ replicate k hash ++ l) in
-      let g = goes at s (encodeAll cs) c h (eats t at (s .place) c tail (both-left (isScalar c) (allScalar cs) y) a) r m in
+      let g = goes at s (encodeAll cs) c (eats t at (s .place) c tail (both-left (isScalar c) (allScalar cs) y) a) r m in
       let p = behindChar (ltb 0 (s .held)) c (s .place) in
       one-more at s c cs o g
       (reads cs (at + length (encode c)) (body (g .held) p (orElse (s .first) p)) l (both-right (isScalar c) (allScalar cs) y) (further t at (encode c) tail a)
-      (g .short) (behind-on c (s .place) (ltb 0 (s .held)) o) (g .reaches) (g .mosts))
+      (behind-on c (s .place) (ltb 0 (s .held)) o) (g .reaches) (g .mosts))

@@ -14,7 +14,6 @@ use Rattle.utf8.specs.Table.{chars, codes, well}
 use Rattle.utf8.proofs.Edges.{boundary-low}
 use Rattle.utf8.proofs.Unicode.{well-encoded}
 use Rattle.chars.specs.Cursors.{cursor}
-use Rattle.chars.specs.Scan.{runAt}
 use Rattle.door.proofs.Doors.{let-in}
 use Rattle.literal.specs.Trace.{Trace, bytes, passes}
 use Rattle.literal.specs.Cut.{answer, wrote}
@@ -22,12 +21,14 @@ use Rattle.literal.specs.Told.{told}
 use Rattle.literal.specs.declared.End.{End}
 use Rattle.lent.specs.declared.Written.the-variants.{Done}
 use Rattle.literal.specs.declared.Scanned.the-variants.{Accepted}
-use Rattle.raw_scan.specs.Raw.{asSource, nothing, ended, body as bodyState, reading, rule}
+use Rattle.raw_open.specs.Opening.{nothing}
+use Rattle.raw_open.specs.declared.Opened.{Opened}
+use Rattle.raw_open.specs.declared.Opened.the-variants.{At}
+use Rattle.raw_open.proofs.Openings.{is-fresh}
+use Rattle.raw_scan.specs.Raw.{asSource, ended, body as bodyState, bodyOf, leftOf, readOf}
+use Rattle.raw_write.proofs.Parts.{stands-there}
 use Rattle.raw.specs.Raw.{parseTrace, parseOf, entersOf}
-use Rattle.raw_scan.specs.Step.{leftOf}
 use Rattle.raw.proofs.Limits.{parse-uncut}
-use Rattle.raw_scan.proofs.Openings.{is-fresh}
-use Rattle.raw_scan.proofs.Parts.{stands-there}
 use Rattle.raw.proofs.Refusals.{on-line, reads-on}
 use Rattle.writer.specs.Writer.{quote, hash, mostAfterQuote, hashesFor, literalOf, rawWriteOf, rawLeftOf}
 use Rattle.writer.proofs.Hashes.{reach}
@@ -69,10 +70,10 @@ module _ (body before after : List ℕ) where
     fits : at < length text
     fits = omega (arith, length-append (before ++ literalOf body) after, length-append before (literalOf body), length-literal body)
 
-    lets-in : 0 ≡ entersOf text (cursor at start)
+    lets-in : entersOf text (cursor at start) ≡ 0
     lets-in =
         let b : getD text at 0 < 0x80 = rw (getD-drop at text 0 0, add-zero at) at (rw (← stands) at (begins (mostAfterQuote body) (body ++ (quote ∷ replicate (hashesFor body) hash ++ after)))) in
-        on-line text (cursor at start) (sym (let-in text at short formed (boundary-low text at fits b))) refl online
+        on-line text (cursor at start) (let-in text at short formed (boundary-low text at fits b)) online
 
     -- where the body begins, and how the literal ends
     abbrev from : ℕ
@@ -85,29 +86,28 @@ module _ (body before after : List ℕ) where
     trace = parseTrace asSource text at start
 
     -- the opening leads to the body
-    opened : trace ≡ runAt (rule asSource start) text from (reading (hashesFor body) (bodyState 0 (columns (hashesFor body) start) none))
-    unfolding parseTrace hashesFor
+    opened : trace ≡ bodyOf asSource text start (hashesFor body) (cursor from (columns (hashesFor body) start))
+    unfolding parseTrace hashesFor readOf
     opened =
         let k : 1 + mostAfterQuote body ≡ suc (mostAfterQuote body) = omega arith in
-        reads-on asSource lets-in text (cursor at start) 0 refl
-        ∙ is-fresh asSource text (cursor at start) refl
+        reads-on asSource (entersOf text (cursor at start)) text (cursor at start) 0 lets-in
+        ∙ ap (λ (x : Opened). leftOf asSource text start x) (is-fresh text (cursor at start) refl
         ∙ opens text start (mostAfterQuote body) 1 at start (body ++ (quote ∷ replicate (hashesFor body) hash ++ after)) stands
-        ∙ ap (λ (n : ℕ). runAt (rule asSource start) text from (reading n (bodyState 0 (columns (hashesFor body) start) none))) k
+        ∙ ap (λ (n : ℕ). At n (cursor from (columns (hashesFor body) start))) k)
 
     module _ (good-body : well body ≡ true) where
       whole : Reads trace (length body) end
-      unfolding endPlace firstPlace hashesFor reach
+      unfolding endPlace firstPlace hashesFor reach bodyOf
       whole =
           let cs = codes (chars body) in
           let k = hashesFor body in
           let w = well-encoded body good-body in
-          let r = reads text start k cs from (bodyState 0 (columns k start) none) after (w .0) (rw (w .1) inside) (omega arith) (columns-on k start ∙ online) (omega arith) (rw (w .1) (omega arith)) in
+          let r = reads text start k cs from (bodyState 0 (columns k start) none) after (w .0) (rw (w .1) inside) (columns-on k start ∙ online) (omega arith) (rw (w .1) (omega arith)) in
           let z : length before + length (literalOf body) ≡ from + length body + suc k = omega (arith, length-literal body) in
           rw (opened, z) (rw (w .1, zero-add (length body), unset (behindFirst false cs (columns k start))) at r)
 
       -- a raw body is a part of the text
       body-is : bytes trace ≡ body
-      unfolding leftOf
       body-is =
           let s = stands-there asSource start text (hashesFor body) (cursor from (columns (hashesFor body) start)) in
           rw (← opened, whole .size, inside) at s ∙ take-at body (quote ∷ replicate (hashesFor body) hash ++ after) (length body) refl

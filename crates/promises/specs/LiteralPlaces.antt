@@ -7,7 +7,8 @@ use Rattle.basis.specs.Pick.{pick, both, either, isnt}
 use Rattle.position.specs.declared.Position.{Position}
 use Rattle.position.specs.Place.{advanced, lined}
 use Rattle.utf8.specs.Table.{chars, codes}
-use Rattle.raw_scan.specs.Raw.{quote, hash, lf}
+use Rattle.raw_open.specs.Opening.{quote, hash}
+use Rattle.raw_scan.specs.Raw.{lf}
 use Rattle.writer.specs.Writer.{hashesFor}
 
 -- n columns on

@@ -18,7 +18,8 @@ use Rattle.literal.specs.Told.{Told, told}
 use Rattle.literal.specs.declared.End.{End}
 use Rattle.literal.specs.declared.Scanned.{Scanned}
 use Rattle.literal.specs.declared.Scanned.the-variants as scanned
-use Rattle.raw_scan.specs.Raw.{asSource, nothing}
+use Rattle.raw_open.specs.Opening.{nothing}
+use Rattle.raw_scan.specs.Raw.{asSource}
 use Rattle.raw.specs.Raw.{parseTrace, parseOf}
 use Rattle.writer.specs.Writer.{literalOf, rawWriteOf, rawLeftOf}
 use Rattle.promises.specs.LiteralPlaces.{firstPlace, endPlace}

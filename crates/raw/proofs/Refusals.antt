@@ -16,7 +16,7 @@ use Rattle.chars.specs.Cursors.{cursor}
 use Rattle.door.specs.Door.{doorOf}
 use Rattle.chars.specs.declared.cursor.Cursor.{Cursor}
 use Rattle.door.proofs.Doors.{admitted}
-use Rattle.literal.specs.Trace.{Trace, fails}
+use Rattle.literal.specs.Trace.{Trace}
 use Rattle.literal.specs.Cut.{cut, wrote}
 use Rattle.literal.specs.declared.Refusal.{Refusal}
 use Rattle.literal.specs.declared.Scanned.{Scanned}
@@ -43,97 +43,94 @@ door-small t at =
     pick-cases (λ (x : ℕ). x ≤ 3) (well t) _ 1 (λ p. pick-cases (λ (x : ℕ). x ≤ 3) (edge (chars t) at) 0 3 (λ r. omega arith) (λ r. omega arith)) (λ p. omega arith))
 
 module _ (t : List ℕ) (start : Cursor) where
-  -- the door, and the line
-  pub at-door : {n : ℕ} → n ≡ doorOf t (start .at) → (n ≡ 0 → ⊥) → n ≡ entersOf t start
+  enters-within : entersOf t start ≡ 0 → start .at ≤ length t
   unfolding entersOf
-  at-door {n} e h = rw (← e, ne-eqb n 0 h)
-
-  module _ {n : ℕ} (e : n ≡ doorOf t (start .at)) (z : n ≡ 0) where
-    pub off-line : onLine (start .place) ≡ false → 3 ≡ entersOf t start
-    unfolding entersOf
-    off-line f = rw (← e, eq-eqb n 0 z, f)
-
-    pub on-line : onLine (start .place) ≡ true → 0 ≡ entersOf t start
-    unfolding entersOf
-    on-line f = rw (← e, eq-eqb n 0 z, f)
-
-  pub enters-within : {n : ℕ} → n ≡ entersOf t start → n ≡ 0 → start .at ≤ length t
-  unfolding entersOf
-  enters-within e z = admitted t (start .at) (passed-both (doorOf t (start .at)) (onLine (start .place)) (sym e ∙ z)) .within
+  enters-within z = admitted t (start .at) (passed-both (doorOf t (start .at)) (onLine (start .place)) z) .within
 
   pub enters-small : entersOf t start ≤ 3
   unfolding entersOf
   enters-small = still-small (doorOf t (start .at)) (onLine (start .place)) (door-small t (start .at))
 
-  -- the hash count
+  pub on-line : doorOf t (start .at) ≡ 0 → onLine (start .place) ≡ true → entersOf t start ≡ 0
+  unfolding entersOf
+  on-line z f = rw (z, f)
+
+  -- one hash is always good
+  pub one-hash : resumesOf t start 1 ≡ entersOf t start
+  unfolding resumesOf
+  one-hash = pick-cases (λ (x : ℕ). x ≡ entersOf t start) (eqb (entersOf t start) 0) 0 (entersOf t start) (λ q. sym (eqb-true (entersOf t start) 0 q)) (λ q. refl)
+
   module _ (k : ℕ) where
-    pub at-entry : {n : ℕ} → n ≡ entersOf t start → (n ≡ 0 → ⊥) → n ≡ resumesOf t start k
-    unfolding resumesOf
-    at-entry {n} e h = rw (← e, ne-eqb n 0 h)
+    -- the door, the line, and the hash count
+    pub at-door : {n : ℕ} → n ≡ doorOf t (start .at) → (n ≡ 0 → ⊥) → n ≡ resumesOf t start k
+    unfolding entersOf resumesOf
+    at-door {n} e h = rw (← e, ne-eqb n 0 h, ne-eqb n 0 h)
 
-    module _ {n : ℕ} (e : n ≡ entersOf t start) (z : n ≡ 0) where
-      pub no-hash : k < 1 → 3 ≡ resumesOf t start k
-      unfolding resumesOf
-      no-hash h = rw (← e, eq-eqb n 0 z, lt-leb 1 k h)
+    module _ {n : ℕ} (e : n ≡ doorOf t (start .at)) (z : n ≡ 0) where
+      pub off-line : onLine (start .place) ≡ false → 3 ≡ resumesOf t start k
+      unfolding entersOf resumesOf
+      off-line f = rw (← e, eq-eqb n 0 z, f)
 
-      module _ (h : 1 ≤ k) where
-        pub too-many : 16777216 < k → 3 ≡ resumesOf t start k
-        unfolding resumesOf
-        too-many g = rw (← e, eq-eqb n 0 z, le-leb 1 k h, lt-leb k 16777216 g)
+      module _ (f : onLine (start .place) ≡ true) where
+        pub no-hash : k < 1 → 3 ≡ resumesOf t start k
+        unfolding entersOf resumesOf
+        no-hash h = rw (← e, eq-eqb n 0 z, f, lt-leb 1 k h)
 
-        pub let-in : k ≤ 16777216 → 0 ≡ resumesOf t start k
-        unfolding resumesOf
-        let-in g = rw (← e, eq-eqb n 0 z, le-leb 1 k h, le-leb k 16777216 g)
+        module _ (h : 1 ≤ k) where
+          pub too-many : 16777216 < k → 3 ≡ resumesOf t start k
+          unfolding entersOf resumesOf
+          too-many g = rw (← e, eq-eqb n 0 z, f, le-leb 1 k h, lt-leb k 16777216 g)
+
+          pub let-in : k ≤ 16777216 → 0 ≡ resumesOf t start k
+          unfolding entersOf resumesOf
+          let-in g = rw (← e, eq-eqb n 0 z, f, le-leb 1 k h, le-leb k 16777216 g)
 
     pub resumes-within : {n : ℕ} → n ≡ resumesOf t start k → n ≡ 0 → start .at ≤ length t
     unfolding resumesOf
-    resumes-within e z = enters-within (sym (passed-both (entersOf t start) (within (1 ‥ 16777216) k) (sym e ∙ z))) refl
+    resumes-within e z = enters-within (passed-both (entersOf t start) (within (1 ‥ 16777216) k) (sym e ∙ z))
 
     pub resumes-small : resumesOf t start k ≤ 3
     unfolding resumesOf
     resumes-small = still-small (entersOf t start) (within (1 ‥ 16777216) k) enters-small
 
--- the reading, where nothing was refused and where something was
-module _ (lines : Bool) {n number : ℕ} (e : n ≡ number) (t : List ℕ) (start : Cursor) (k : ℕ) where
-  pub reads-on : n ≡ 0 → traceOf lines number t start k ≡ readOf lines t start k
-  unfolding traceOf
-  reads-on z = rw (← e, eq-eqb n 0 z)
-
-  pub is-refused : (n ≡ 0 → ⊥) → traceOf lines number t start k ≡ fails (refused n start)
-  unfolding traceOf
-  is-refused h = rw (← e, ne-eqb n 0 h)
-
 -- a refused scan leaves what was lent
-pub untouched : (f : Refusal) (t : Trace) (l : List ℕ) → l ≡ wrote (Refused f) t l
+pub untouched : {r : Scanned} {f : Refusal} → r ≡ Refused f → (t : Trace) (l : List ℕ) → l ≡ wrote r t l
 unfolding wrote
-untouched f t l = refl
+untouched e t l = rw e
+
+-- a scan, where something was refused and where nothing was
+module _ (lines : Bool) (n : ℕ) (t : List ℕ) (start : Cursor) (k : ℕ) where
+  pub is-refused : (full : Refusal) (limit room : ℕ) → (n ≡ 0 → ⊥) → Refused (refused n start) ≡ cut full limit room 0 (traceOf lines n t start k)
+  unfolding traceOf
+  is-refused full limit room h = rw (ne-eqb n 0 h) (sym (cut-fails full limit room 0 (refused n start)))
+
+  module _ (z : n ≡ 0) where
+    pub reads-on : traceOf lines n t start k ≡ readOf lines t start k
+    unfolding traceOf
+    reads-on = rw (eq-eqb n 0 z)
+
+    pub answered : (full : Refusal) (limit room : ℕ) {r : Scanned} → r ≡ cut full limit room 0 (readOf lines t start k) → r ≡ cut full limit room 0 (traceOf lines n t start k)
+    answered full limit room h = rw reads-on h
+
+    pub left : (r : Scanned) (l : List ℕ) {l′ : List ℕ} → l′ ≡ wrote r (readOf lines t start k) l → l′ ≡ wrote r (traceOf lines n t start k) l
+    left r l h = rw reads-on h
 
 -- the answers of the two entries, and what they leave of what was lent
 module _ (lines : Bool) (t : List ℕ) (at : ℕ) (p : Position) where
-  module _ {n : ℕ} (e : n ≡ entersOf t (cursor at p)) where
-    pub parse-refused : (limit room : ℕ) → (n ≡ 0 → ⊥) → Refused (refused n (cursor at p)) ≡ parseOf lines t at p limit room
+  module _ {n : ℕ} (e : n ≡ resumesOf t (cursor at p) 1) where
+    pub parse-answered : (limit room : ℕ) {r : Scanned} → r ≡ cut (refused 9 (cursor at p)) limit room 0 (traceOf lines n t (cursor at p) 0) → r ≡ parseOf lines t at p limit room
     unfolding parseOf parseTrace
-    parse-refused limit room h = rw (is-refused lines e t (cursor at p) 0 h) (sym (cut-fails (refused 9 (cursor at p)) limit room 0 (refused n (cursor at p))))
+    parse-answered limit room h = rw (← one-hash t (cursor at p), ← e) h
 
-    module _ (z : n ≡ 0) where
-      pub parse-answered : (limit room : ℕ) {r : Scanned} → r ≡ cut (refused 9 (cursor at p)) limit room 0 (readOf lines t (cursor at p) 0) → r ≡ parseOf lines t at p limit room
-      unfolding parseOf parseTrace
-      parse-answered limit room h = rw (reads-on lines e t (cursor at p) 0 z) h
-
-      pub parse-left : (r : Scanned) (l : List ℕ) {l′ : List ℕ} → l′ ≡ wrote r (readOf lines t (cursor at p) 0) l → l′ ≡ wrote r (parseTrace lines t at p) l
-      unfolding parseTrace
-      parse-left r l h = rw (reads-on lines e t (cursor at p) 0 z) h
+    pub parse-left : (r : Scanned) (l : List ℕ) {l′ : List ℕ} → l′ ≡ wrote r (traceOf lines n t (cursor at p) 0) l → l′ ≡ wrote r (parseTrace lines t at p) l
+    unfolding parseTrace
+    parse-left r l h = rw (← one-hash t (cursor at p), ← e) h
 
   module _ (k : ℕ) {n : ℕ} (e : n ≡ resumesOf t (cursor at p) k) where
-    pub resume-refused : (limit room : ℕ) → (n ≡ 0 → ⊥) → Refused (refused n (cursor at p)) ≡ resumeOf lines t at p k limit room
+    pub resume-answered : (limit room : ℕ) {r : Scanned} → r ≡ cut (refused 9 (cursor at p)) limit room 0 (traceOf lines n t (cursor at p) k) → r ≡ resumeOf lines t at p k limit room
     unfolding resumeOf resumeTrace
-    resume-refused limit room h = rw (is-refused lines e t (cursor at p) k h) (sym (cut-fails (refused 9 (cursor at p)) limit room 0 (refused n (cursor at p))))
+    resume-answered limit room h = rw (← e) h
 
-    module _ (z : n ≡ 0) where
-      pub resume-answered : (limit room : ℕ) {r : Scanned} → r ≡ cut (refused 9 (cursor at p)) limit room 0 (readOf lines t (cursor at p) k) → r ≡ resumeOf lines t at p k limit room
-      unfolding resumeOf resumeTrace
-      resume-answered limit room h = rw (reads-on lines e t (cursor at p) k z) h
-
-      pub resume-left : (r : Scanned) (l : List ℕ) {l′ : List ℕ} → l′ ≡ wrote r (readOf lines t (cursor at p) k) l → l′ ≡ wrote r (resumeTrace lines t at p k) l
-      unfolding resumeTrace
-      resume-left r l h = rw (reads-on lines e t (cursor at p) k z) h
+    pub resume-left : (r : Scanned) (l : List ℕ) {l′ : List ℕ} → l′ ≡ wrote r (traceOf lines n t (cursor at p) k) l → l′ ≡ wrote r (resumeTrace lines t at p k) l
+    unfolding resumeTrace
+    resume-left r l h = rw (← e) h

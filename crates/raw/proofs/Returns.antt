@@ -17,23 +17,8 @@ use Rattle.literal.specs.Cut.{cut}
 use Rattle.literal.specs.declared.Terminator.{Terminator}
 use Rattle.literal.specs.declared.Scanned.{Scanned}
 use Rattle.literal.specs.declared.Scanned.the-variants.{Accepted, Refused}
-use Rattle.raw_scan.specs.Raw.{
-  quote,
-  hash,
-  lf,
-  asSource,
-  nothing,
-  hashesOf,
-  refusal,
-  ended,
-  heldBack,
-  placed,
-  openingTurn,
-  readingTurn,
-  atEnd,
-  turn,
-  readOf,
-}
+use Rattle.raw_open.specs.Opening.{quote, hash, nothing, refusal, cutOff, openingTurn, openedOf}
+use Rattle.raw_scan.specs.Raw.{lf, asSource, hashesOf, ended, heldBack, placed, atEnd, turn, bodyOf, readOf}
 use Rattle.raw.specs.Raw.{traceOf, entersOf, resumesOf, parseTrace, resumeTrace, resumeOf}
 
 -- a scan from the start of a text, with the Rust's hash count, at a place; and at 1:1
@@ -65,7 +50,7 @@ pub entered-returns :
     × Fails (scans 0 (hash ∷ 0xC3 ∷ 0xA9 ∷ [])) (unexpectedInput (given 1 1) (part 1 2)) 3 (given 1 2)
     × Fails (scans 0 []) (unterminatedString (given 1 1)) 0 (given 1 1)
     × Fails (scans 0 (word "#")) (unterminatedString (given 1 1)) 1 (given 1 2)
-unfolding word none isNone given onLine orElse advanced lined up look charsFrom chars charsAt wellFrom well edge encode doorOf run runAt yields bytes final heldBack placed openingTurn readingTurn atEnd turn readOf traceOf entersOf resumesOf parseTrace resumeTrace
+unfolding word none isNone given onLine orElse advanced lined up look charsFrom chars charsAt wellFrom well edge encode doorOf run runAt yields bytes final cutOff openingTurn openedOf heldBack placed atEnd turn bodyOf readOf traceOf entersOf resumesOf parseTrace resumeTrace
 entered-returns = (
   (refl, refl),
   (refl, refl),
@@ -92,7 +77,7 @@ pub resumed-returns :
     × Gives (scans 1 (0xC3 ∷ 0xA9 ∷ [])) (0xC3 ∷ 0xA9 ∷ []) 2 (given 1 2) (given 1 2) (hashesOf 1)
     × Gives (from (given 1 3) 1 (quote ∷ lf ∷ word "x\"#")) (quote ∷ lf ∷ word "x") 5 (given 1 8) (given 1 4) nothing
     × Gives (from (given 1 3) 1 (lf ∷ word "x\"#")) (lf ∷ word "x") 4 (given 2 3) (given 2 0) nothing
-unfolding word none isNone given onLine orElse advanced lined up look charsFrom chars charsAt wellFrom well edge encode doorOf run runAt yields bytes final heldBack placed openingTurn readingTurn atEnd turn readOf traceOf entersOf resumesOf parseTrace resumeTrace
+unfolding word none isNone given onLine orElse advanced lined up look charsFrom chars charsAt wellFrom well edge encode doorOf run runAt yields bytes final cutOff openingTurn openedOf heldBack placed atEnd turn bodyOf readOf traceOf entersOf resumesOf parseTrace resumeTrace
 resumed-returns = ((refl, refl), (refl, refl), (refl, refl), (refl, refl), (refl, refl), (refl, refl), (refl, refl), (refl, refl), (refl, refl))
 
 -- a limit and a room: the room is asked first, a quote that may still close is not yet bytes, and at the closing hash no limit is tested
@@ -106,7 +91,7 @@ pub cut-returns :
     × (within 0 1 (word "\"a") ≡ Refused (refusal (fault 9 (given 1 1)) (cursor 0 (given 1 1)) nothing))
     × (within 3 3 (word "abc\"#") ≡ Accepted (ended (cursor 5 (given 1 6)) (given 1 2) nothing) 3)
     × (within 2 3 (word "abc\"#") ≡ Refused (refusal (fault 7 (given 1 1)) (cursor 3 (given 1 4)) (hashesOf 1)))
-unfolding word none isNone given onLine orElse advanced lined up look charsFrom chars charsAt wellFrom well edge encode doorOf run runAt yields bytes final heldBack placed openingTurn readingTurn atEnd turn readOf traceOf entersOf resumesOf parseTrace resumeTrace cut passes resumeOf
+unfolding word none isNone given onLine orElse advanced lined up look charsFrom chars charsAt wellFrom well edge encode doorOf run runAt yields bytes final cutOff openingTurn openedOf heldBack placed atEnd turn bodyOf readOf traceOf entersOf resumesOf parseTrace resumeTrace cut passes resumeOf
 cut-returns = (refl, refl, refl, refl, refl, refl)
 
 -- the arguments that are refused: a text that is not UTF-8, an offset past the end and one inside a character, line 0, and the hash counts next to the range
@@ -118,5 +103,5 @@ pub refused-returns :
     × Fails (resumeTrace asSource [] 0 (given 1 1) 0) (fault 3 (given 1 1)) 0 (given 1 1)
     × Fails (resumeTrace asSource [] 0 (given 1 1) 16777217) (fault 3 (given 1 1)) 0 (given 1 1)
     × Gives (resumeTrace asSource [] 0 (given 1 1) 16777216) [] 0 (given 1 1) none (hashesOf 16777216)
-unfolding word none isNone given onLine orElse advanced lined up look charsFrom chars charsAt wellFrom well edge encode doorOf run runAt yields bytes final heldBack placed openingTurn readingTurn atEnd turn readOf traceOf entersOf resumesOf parseTrace resumeTrace
+unfolding word none isNone given onLine orElse advanced lined up look charsFrom chars charsAt wellFrom well edge encode doorOf run runAt yields bytes final cutOff openingTurn openedOf heldBack placed atEnd turn bodyOf readOf traceOf entersOf resumesOf parseTrace resumeTrace
 refused-returns = (refl, refl, refl, refl, refl, refl, (refl, refl))

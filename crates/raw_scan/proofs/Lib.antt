@@ -1,7 +1,6 @@
 pub mod Turns
 pub mod Steps
-pub mod Openings
 pub mod Loops
-pub mod Parts
+pub mod Stands
 pub mod Readings
 pub mod Limits

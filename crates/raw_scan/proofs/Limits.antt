@@ -5,11 +5,9 @@ use mathlib.Core.Bool.{Bool}
 use mathlib.Core.List.{List}
 use Rattle.chars.specs.declared.cursor.Cursor.{Cursor}
 use Rattle.literal.specs.Limits.{Sevens}
-use Rattle.raw_scan.specs.Raw.{entered, readOf}
+use Rattle.raw_scan.specs.Raw.{readOf}
 use Rattle.raw_scan.proofs.Readings.{every}
 
 pub read-sevens : (lines : Bool) (t : List ℕ) (start : Cursor) (k : ℕ) → Sevens (readOf lines t start k)
-unfolding readOf
 read-sevens lines t start k =
-    every lines (start .place) t (λ at r. Sevens r) (λ at e q. tt) (λ at f l. (λ q. omega arith, λ q. omega arith)) (λ at bs f r q h. (q, h)) (λ at c w r e h. h)
-    (start .at) (entered k (start .place))
+    every lines t (λ at r. Sevens r) (λ at e q. tt) (λ at f l. (λ q. omega arith, λ q. omega arith)) (λ at bs f r q h. (q, h)) (λ at c w r e h. h) start k

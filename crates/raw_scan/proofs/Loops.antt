@@ -12,25 +12,23 @@ use Rattle.literal.specs.Trace.{Trace, ends, adds, checks, yields, passes}
 use Rattle.literal.specs.Cut.{cut}
 use Rattle.literal.specs.declared.End.{End}
 use Rattle.literal.specs.declared.Refusal.{Refusal}
-use Rattle.literal.specs.declared.Scanned.{Scanned}
 use Rattle.literal.specs.declared.Scanned.the-variants.{Accepted, Refused}
 use Rattle.literal.proofs.Turns.{cut-ends, cut-full, cut-adds, cut-long, cut-on}
-use Rattle.raw_scan.specs.Raw.{reading, tooLong, rule}
+use Rattle.raw_scan.specs.Raw.{Body, tooLong, rule}
 use Rattle.raw_scan.specs.Step.{Adds}
-use Rattle.raw_scan.specs.declared.Body.{Body}
 
 module _ (lines : Bool) (start : Position) (t : List ℕ) (k at : ℕ) (s : Body) where
   abbrev rest : Trace
-  rest = runAt (rule lines start) t at (reading k s)
+  rest = runAt (rule lines start k) t at s
 
   -- what a turn that goes on adds to the reading
-  pub went-on : {m next : ℕ} {r : Body} → (a : Adds lines t k at s m next r) → rest ≡ adds (a .bytes) (checks (tooLong start k (cursor next (r .place))) (runAt (rule lines start) t next (reading k r)))
+  pub went-on : {m next : ℕ} {r : Body} → (a : Adds lines t k at s m next r) → rest ≡ adds (a .bytes) (checks (tooLong start k (cursor next (r .place))) (runAt (rule lines start k) t next r))
   unfolding yields
-  went-on a = move-on (rule lines start) t at (reading k s) (a .moves start)
+  went-on a = move-on (rule lines start k) t at s (a .moves start)
 
   module _ (full : Refusal) (limit room n : ℕ) where
-    pub is-over : {e : End} → ((p : Position) → moveAt (rule lines p) t at (reading k s) ≡ over (ends e)) → cut full limit room n rest ≡ Accepted e n
-    is-over {e} h = ap (cut full limit room n) (move-over (rule lines start) t at (reading k s) (h start)) ∙ cut-ends full limit room n e
+    pub is-over : {e : End} → ((p : Position) → moveAt (rule lines p k) t at s ≡ over (ends e)) → cut full limit room n rest ≡ Accepted e n
+    is-over {e} h = ap (cut full limit room n) (move-over (rule lines start k) t at s (h start)) ∙ cut-ends full limit room n e
 
     -- n′ bytes are in the body then
     module _ {m next : ℕ} {r : Body} (a : Adds lines t k at s m next r) (l : n ≤ room) {n′ : ℕ} (q : n′ ≡ n + m) where
@@ -41,5 +39,5 @@ module _ (lines : Bool) (start : Position) (t : List ℕ) (k at : ℕ) (s : Body
         pub is-too-long : passes limit n′ ≡ true → cut full limit room n rest ≡ Refused (tooLong start k (cursor next (r .place)))
         is-too-long o = rw (went-on a) (cut-adds full limit room n m (a .bytes) _ (a .count) l (omega arith) ∙ cut-long full limit room (n + m) _ _ (rw (← q) o))
 
-        pub goes-on : passes limit n′ ≡ false → cut full limit room n rest ≡ cut full limit room n′ (runAt (rule lines start) t next (reading k r))
+        pub goes-on : passes limit n′ ≡ false → cut full limit room n rest ≡ cut full limit room n′ (runAt (rule lines start k) t next r)
         goes-on o = rw (went-on a, q) (cut-adds full limit room n m (a .bytes) _ (a .count) l (omega arith) ∙ cut-on full limit room (n + m) _ _ (rw (← q) o))

@@ -12,7 +12,6 @@ use Rattle.basis.proofs.Cases.{both-no}
 use Rattle.position.specs.declared.Position.{Position}
 use Rattle.position.specs.Place.{orElse, advanced, lined}
 use Rattle.utf8.specs.Encode.{encode}
-use Rattle.utf8.proofs.Laws.{at-width}
 use Rattle.utf8.proofs.Unicode.{size-width}
 use Rattle.chars.specs.Cursors.{cursor, eatNextOf}
 use Rattle.chars.specs.Scan.{moveAt, over}
@@ -21,16 +20,9 @@ use Rattle.chars.specs.declared.cursor.Taken.the-variants as taken
 use Rattle.chars.proofs.Cursors.{Took, ate-took, ate-ended}
 use Rattle.chars.proofs.Scans.{at-end, one-on, is-over}
 use Rattle.literal.specs.Trace.{ends}
-use Rattle.raw_scan.specs.Raw.{asSource, nothing, hashesOf, ended, body, reading, heldBack, placed, readingTurn, atEnd, turn, rule}
+use Rattle.raw_open.specs.Opening.{nothing}
+use Rattle.raw_scan.specs.Raw.{asSource, hashesOf, ended, Body, body, heldBack, placed, atEnd, turn, rule}
 use Rattle.raw_scan.specs.Step.{Adds}
-use Rattle.raw_scan.specs.declared.Body.{Body}
-
--- a cursor behind a character is further on, and within the text
-pub further-on : (t : List ℕ) (s : Cursor) {c : ℕ} {next : Cursor} → eatNextOf t s ≡ taken.Char c next → (s .at < next .at) × (next .at ≤ length t)
-further-on t s e =
-    let k = ate-took t s e in
-    let h = at-width t (s .at) (k .found) in
-    rw (k .stands) (omega arith, omega arith)
 
 -- the bytes held back are as many as they are counted
 pub length-held : (n : ℕ) → length (heldBack n) ≡ n
@@ -58,67 +50,55 @@ placed-held {held} c p h = rw (ne-eqb held 0 (λ q. omega arith), both-no)
 module _ (lines : Bool) (t : List ℕ) (k at : ℕ) (s : Body) where
   -- the text ends
   pub ends-open : eatNextOf t (cursor at (s .place)) ≡ taken.End → (start : Position)
-      → moveAt (rule lines start) t at (reading k s) ≡ over (ends (ended (cursor at (s .place)) (s .first) (hashesOf k)))
+      → moveAt (rule lines start k) t at s ≡ over (ends (ended (cursor at (s .place)) (s .first) (hashesOf k)))
   unfolding atEnd
-  ends-open e start = at-end (rule lines start) t at (reading k s) (ate-ended t (cursor at (s .place)) e)
+  ends-open e start = at-end (rule lines start k) t at s (ate-ended t (cursor at (s .place)) e)
 
   module _ {c : ℕ} {next : Cursor} (e : eatNextOf t (cursor at (s .place)) ≡ taken.Char c next) where
     abbrev took : Took t at (advanced (s .place)) c next
     took = ate-took t (cursor at (s .place)) e
 
-    abbrev on-line : (at < next .at) × (next .at ≤ length t)
-    on-line = further-on t (cursor at (s .place)) e
-
     -- a quote begins an attempt to close, or restarts one
     pub quote-adds : c ≡ 0x22 → Adds lines t k at s (s .held) (next .at) (body 1 (next .place) (orElse (s .first) (next .place)))
-    unfolding turn readingTurn
+    unfolding turn
     quote-adds h =
-        let f = on-line in
         record {
           bytes = heldBack (s .held);
           count = length-held (s .held);
-          moves = λ start. rw (took .stands) (one-on (rule lines start) t at (reading k s) (took .found) (rw (eq-eqb c 0x22 h)));
-          further = f;
-          room = omega arith;
+          moves = λ start. rw (took .stands) (one-on (rule lines start k) t at s (took .found) (rw (eq-eqb c 0x22 h)));
         }
 
     module _ (h : c ≡ 0x23) (z : 0 < s .held) where
       -- the last hash of an attempt closes the literal
-      pub hash-closes : s .held ≡ k → (start : Position) → moveAt (rule lines start) t at (reading k s) ≡ over (ends (ended next (s .first) nothing))
-      unfolding turn readingTurn
+      pub hash-closes : s .held ≡ k → (start : Position) → moveAt (rule lines start k) t at s ≡ over (ends (ended next (s .first) nothing))
+      unfolding turn
       hash-closes q start =
-          rw (took .stands) (is-over (rule lines start) t at (reading k s) (took .found)
+          rw (took .stands) (is-over (rule lines start k) t at s (took .found)
           (rw (ne-eqb c 0x22 (λ q. omega arith), lt-ltb 0 (s .held) z, eq-eqb c 0x23 h, eq-eqb (s .held) k q)))
 
       -- an earlier one is held back
-      pub hash-adds : (s .held ≡ k → ⊥) → s .held ≤ at → Adds lines t k at s 0 (next .at) (body (s .held + 1) (next .place) (orElse (s .first) (next .place)))
-      unfolding turn readingTurn
-      hash-adds n l =
-          let f = on-line in
+      pub hash-adds : (s .held ≡ k → ⊥) → Adds lines t k at s 0 (next .at) (body (s .held + 1) (next .place) (orElse (s .first) (next .place)))
+      unfolding turn
+      hash-adds n =
           record {
             bytes = [];
             count = refl;
-            moves = λ start. rw (took .stands) (one-on (rule lines start) t at (reading k s) (took .found)
+            moves = λ start. rw (took .stands) (one-on (rule lines start k) t at s (took .found)
                 (rw (ne-eqb c 0x22 (λ q. omega arith), lt-ltb 0 (s .held) z, eq-eqb c 0x23 h, ne-eqb (s .held) k n)));
-            further = f;
-            room = omega arith;
           }
 
     -- any other character is kept, behind what was held back
     pub kept-adds : {n : ℕ} {p : Position} → (c ≡ 0x22 → ⊥) → both (ltb 0 (s .held)) (eqb c 0x23) ≡ false → n ≡ s .held + (next .at - at) → placed lines (s .held) c (next .place) ≡ p
         → Adds lines t k at s n (next .at) (body 0 p (orElse (s .first) p))
-    unfolding turn readingTurn
+    unfolding turn
     kept-adds {n} {p} m o q r =
-        let f = on-line in
         let w = size-width t at (took .found) in
         let v : next .at ≡ at + took .width = ap (λ (x : Cursor). x .at) (took .stands) in
         let u : advanced (s .place) ≡ next .place = ap (λ (x : Cursor). x .place) (sym (took .stands)) in
         record {
           bytes = heldBack (s .held) ++ encode c;
           count = simp (length-append, length-held, w) (omega arith);
-          moves = λ start. rw (← r, ← u, v) (one-on (rule lines start) t at (reading k s) (took .found) (rw (ne-eqb c 0x22 m, o)));
-          further = f;
-          room = omega arith;
+          moves = λ start. rw (← r, ← u, v) (one-on (rule lines start k) t at s (took .found) (rw (ne-eqb c 0x22 m, o)));
         }
 
     module _ {n : ℕ} (m : c ≡ 0x22 → ⊥) where

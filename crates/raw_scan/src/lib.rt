@@ -1,24 +1,12 @@
-// The scan of a raw string literal: the Rust's `parse_raw_string_literal`, measured first and then written into lent bytes.
+// The scan of a raw string literal: the Rust's `parse_raw_string_literal` with nothing written.
 ghost use mathlib.Core.Path.{_≡_};
-ghost use Prim.Native.Nat.{_-_, _≤_, _<_};
-ghost use lib.ListN.{length};
-ghost use lib.Seq.{sets};
-ghost use Rattle.chars.specs.Cursors.{cursor};
-ghost use Rattle.fault.specs.Faults.{part, fault, unexpectedInput};
-ghost use Rattle.literal.specs.Trace.{bytes};
+ghost use Prim.Native.Nat.{_≤_, _<_};
+ghost use Rattle.fault.specs.Faults.{fault};
 ghost use Rattle.literal.specs.Cut.{cut};
-ghost use Rattle.literal.specs.declared.Scanned.the-variants.{Accepted};
-ghost use Rattle.raw_scan.specs.Raw.{
-  asSource,
-  nothing,
-  refusal,
-  ended,
-  refused,
-  readOf,
-};
-ghost use Rattle.raw_scan.specs.Step.{behind, leftOf, Within};
-ghost use Rattle.raw_scan.specs.declared.Opened.the-variants as Opened;
-ghost use Rattle.raw_scan.specs.declared.Opened.the-variants.{At};
+ghost use Rattle.literal.specs.declared.Scanned.the-variants as Scanned;
+ghost use Rattle.raw_open.specs.Opening.{refusal};
+ghost use Rattle.raw_scan.specs.Raw.{asSource, ended, refused, bodyOf, readOf};
+ghost use Rattle.raw_scan.specs.Step.{heldOf, behindOf};
 use chars::cursor::Cursor;
 use chars::cursor::Taken;
 use fault::Fault;
@@ -28,6 +16,7 @@ use literal::Refusal;
 use literal::Scanned;
 use literal::Terminator;
 use position::Position;
+use raw_open::Opened;
 
 const QUOTE: u32 = 0x22;
 
@@ -35,68 +24,58 @@ const HASH: u32 = 0x23;
 
 const LF: u32 = 0x0A;
 
-// Where a scan of a body stands: how many bytes are held back, a quote and the hashes after it, while
-// an attempt to close lasts, and 0 outside one; the place; and the first place.
-pub struct Body {
-    pub held: usize,
-    pub place: Position,
-    pub first: Position,
-}
-
-// What the opening leads to: the body, which so many hashes close, at a cursor; or a refusal.
-enum Opened {
-    At(usize, Cursor),
-    Refused(Refusal),
-}
-
-// The state behind a character that does not close. Held back is a quote with the hashes after it, while an attempt to close
-// lasts: a quote begins or restarts one, a hash goes on with it, and any other character ends it. A line feed that does so
-// starts no line.
-fn step(c: u32, s: Body, next: Cursor) -> Body
-    requires { ⌜ s .held < next .at ⌝ }
-    ensures { λ r. ⌜ r ≡ behind asSource c s (next .place) ⌝ }
+// How many bytes are held back behind a character, a quote and the hashes after it, while an attempt to close lasts: a quote
+// begins or restarts one, a hash goes on with it, and any other character ends it.
+fn holds(c: u32, held: usize) -> usize
+    requires { ⌜ held < 0xFFFFFFFFFFFFFFFF ⌝ }
+    ensures { λ r. ⌜ r ≡ heldOf c held ⌝ }
 {
-    let place = next.place;
-    let first = s.first.or_else(place);
     if c == QUOTE {
-        let held = 1;
-        return Body { held, place, first };
+        return 1;
     }
-    if 0 < s.held {
-        if c == HASH {
-            let held = s.held + 1;
-            return Body { held, place, first };
-        }
-        let held = 0;
-        return Body { held, place, first };
+    if held == 0 {
+        return 0;
     }
-    let held = 0;
+    if c == HASH {
+        return held + 1;
+    }
+    0
+}
+
+// The cursor behind a character that does not close. A line feed that ends an attempt to close starts no line.
+fn behind(c: u32, held: usize, next: Cursor) -> Cursor
+    ensures { λ r. ⌜ r ≡ behindOf asSource c held next ⌝ }
+{
     if c == LF {
-        let place = place.lined();
-        let first = s.first.or_else(place);
-        return Body { held, place, first };
+        if held == 0 {
+            let at = next.at;
+            let place = next.place.lined();
+            return Cursor { at, place };
+        }
+        return next;
     }
-    Body { held, place, first }
+    next
 }
 
 // A fault of a literal that is about no part of it, with the cursor where it was found and what is on record then.
-fn refuse(number: u8, place: Position, cursor: Cursor, on_record: Terminator) -> Refusal
-    ensures { λ r. ⌜ r ≡ refusal (fault number place) cursor on_record ⌝ }
+fn refuse(number: u8, place: Position, cursor: Cursor, on_record: Terminator) -> Scanned
+    ensures { λ r. ⌜ r ≡ Scanned.Refused (refusal (fault number place) cursor on_record) ⌝ }
 {
-    Refusal {
-        fault: Fault {
-            number,
-            place,
-            part: Part::NONE,
-        },
+    let fault = Fault {
+        number,
+        place,
+        part: Part::NONE,
+    };
+    Scanned::Refused(Refusal {
+        fault,
         cursor,
         on_record,
-    }
+    })
 }
 
 // An accepted body of so many bytes.
 fn accept(cursor: Cursor, first: Position, on_record: Terminator, len: usize) -> Scanned
-    ensures { λ r. ⌜ r ≡ Accepted (ended cursor first on_record) len ⌝ }
+    ensures { λ r. ⌜ r ≡ Scanned.Accepted (ended cursor first on_record) len ⌝ }
 {
     let end = End {
         cursor,
@@ -111,108 +90,40 @@ fn accept(cursor: Cursor, first: Position, on_record: Terminator, len: usize) ->
 // literal's start is where its refusals are reported. A raw body is a part of the text: all from its beginning to here, but
 // for what is held back.
 fn body_of(text: &[u8], start: Cursor, from: Cursor, k: usize, limit: usize, room: usize) -> Scanned
-    requires { ⌜ (1 ≤ k) × (from .at ≤ length (now text)) ⌝ }
-    ensures { λ r. ⌜ r ≡ cut (refused 9 start) limit room 0 (leftOf asSource (now (text .entry)) (start .place) (At k from)) ⌝ }
+    requires { ⌜ 1 ≤ k ⌝ }
+    ensures { λ r. ⌜ r ≡ cut (refused 9 start) limit room 0 (bodyOf asSource (now (text .entry)) (start .place) k from) ⌝ }
 {
     let on_record = Terminator { c: HASH, times: k };
-    let begin = from.at;
-    let place = from.place;
-    let mut at = begin;
-    let mut s = Body {
-        held: 0,
-        place,
-        first: Position::NONE,
-    };
+    let mut here = from;
+    let mut first = Position::NONE;
+    let mut held = 0;
+    let mut n = 0;
     loop {
-        let place = s.place;
-        let here = Cursor { at, place };
         let Taken::Char(c, next) = here.eat_next_and_advance(text) else {
-            return accept(here, s.first, on_record, at - begin - s.held);
+            return accept(here, first, on_record, n);
         };
-        let t = step(c, s, next);
-        let n = next.at - begin - t.held;
-        if k < t.held {
-            return accept(next, s.first, Terminator::NONE, n);
+        here = behind(c, held, next);
+        held = holds(c, held);
+        if k < held {
+            return accept(next, first, Terminator::NONE, n);
         }
+        first = first.or_else(here.place);
+        n = next.at - from.at - held;
         if room < n {
-            let full = refuse(Fault::NO_LITERAL_ROOM, start.place, start, Terminator::NONE);
-            return Scanned::Refused(full);
+            return refuse(Fault::NO_LITERAL_ROOM, start.place, start, Terminator::NONE);
         }
         if literal::is_over(limit, n) {
-            let place = t.place;
-            let there = Cursor { at: next.at, place };
-            return Scanned::Refused(refuse(Fault::STRING_TOO_LONG, start.place, there, on_record));
+            return refuse(Fault::STRING_TOO_LONG, start.place, here, on_record);
         }
-        at = next.at;
-        s = t;
     }
 }
 
-// The 5 of a character that is no quote: the offset is behind it, the position is not.
-fn unexpected(place: Position, from: Cursor, behind: usize) -> Opened
-    requires { ⌜ from .at ≤ behind ⌝ }
-    ensures { λ r. ⌜ r ≡ Opened.Refused (refusal (unexpectedInput place (part (from .at) (behind - from .at))) (cursor behind (from .place)) nothing) ⌝ }
-{
-    let column = from.place;
-    let fault = Fault {
-        number: Fault::UNEXPECTED_INPUT,
-        place,
-        part: Part {
-            at: from.at,
-            len: behind - from.at,
-        },
-    };
-    Opened::Refused(Refusal {
-        fault,
-        cursor: Cursor {
-            at: behind,
-            place: column,
-        },
-        on_record: Terminator::NONE,
-    })
-}
-
-// The body of a literal that is resumed, or that is entered after its first hash, where `hashes` is 0: then the hashes after
-// the first are counted, and the quote is taken.
-fn enter(text: &[u8], start: Cursor, hashes: usize) -> Opened
-    requires { ⌜ start .at ≤ length (now text) ⌝ }
-    ensures { λ r. ⌜ readOf asSource (now (text .entry)) start hashes ≡ leftOf asSource (now (text .entry)) (start .place) r ⌝ }
-    ensures { λ r. ⌜ Within (length (now (text .entry))) r ⌝ }
-{
-    if hashes != 0 {
-        return Opened::At(hashes, start);
-    }
-    let mut k: usize = 1;
-    let mut from = start;
-    loop {
-        let Taken::Char(c, next) = from.eat_next_and_advance(text) else {
-            let cut_off = refuse(
-                Fault::UNTERMINATED_STRING,
-                start.place,
-                from,
-                Terminator::NONE,
-            );
-            return Opened::Refused(cut_off);
-        };
-        if c == QUOTE {
-            return Opened::At(k, next);
-        }
-        if c != HASH {
-            return unexpected(start.place, from, next.at);
-        }
-        k += 1;
-        from = next;
-    }
-}
-
-// Inner: what the scan of a text from a place, both found good, answers for a room. As in the Rust, `hashes` is 0 where the
-// literal is entered after its first hash.
+// Inner: what the scan of a text from a cursor answers for a limit and a room. As in the Rust, `hashes` is 0 where the literal
+// is entered after its first hash. It does not ask the arguments.
 pub fn measure(text: &[u8], start: Cursor, hashes: usize, limit: usize, room: usize) -> Scanned
-    requires { ⌜ start .at ≤ length (now text) ⌝ }
     ensures { λ r. ⌜ r ≡ cut (refused 9 start) limit room 0 (readOf asSource (now (text .entry)) start hashes) ⌝ }
 {
-    let opened = enter(text, start, hashes);
-    match opened {
+    match raw_open::open(text, start, hashes) {
         Opened::Refused(refusal) => {
             return Scanned::Refused(refusal);
         }
@@ -220,18 +131,4 @@ pub fn measure(text: &[u8], start: Cursor, hashes: usize, limit: usize, room: us
             return body_of(text, start, from, k, limit, room);
         }
     }
-}
-
-// Inner: writes the body of an accepted literal, `len` bytes long, to the front of what is lent. A raw body is a part of the
-// text.
-pub fn write(text: &[u8], start: Cursor, hashes: usize, len: usize, out: &mut [u8])
-    requires { ⌜ (start .at ≤ length (now text)) × (len ≡ length (bytes (readOf asSource (now text) start hashes))) × (len ≤ length (now out)) ⌝ }
-    ensures { λ _. ⌜ now (out .exit) ≡ sets (now (out .entry)) 0 (bytes (readOf asSource (now (text .entry)) start hashes)) ⌝ }
-{
-    let opened = enter(text, start, hashes);
-    let Opened::At(_, from) = opened else {
-        return;
-    };
-    let at = from.at;
-    lent::copy(&text[at..at + len], out, 0);
 }

@@ -1,34 +1,43 @@
 -- What the opening leaves is measured, or is a refusal.
-use mathlib.Core.Path.{_≡_, sym, _∙_}
+use Prim.Native.Nat.{_≤_}
+use mathlib.Core.Path.{_≡_, sym, subst, _∙_}
 use borrow.Author.Needs.{needs}
 use Rattle.literal.proofs.Turns.{cut-fails}
-use Rattle.raw_scan.specs.Raw.{asSource, readOf}
-use Rattle.raw_scan.specs.Step.{leftOf}
+use Rattle.raw_open.specs.Opening.{openedOf}
+use Rattle.raw_open.specs.declared.Opened.the-variants.{At}
+use Rattle.raw_open.proofs.Leads.{Leads, opened-leads}
+use Rattle.raw_scan.specs.Raw.{readOf}
 use Rattle.raw_scan.proofs.measure.Statement.{statement}
 use Rattle.raw_scan.proofs.measure.Tie as tie
 
--- what the opening leaves of the reading
-left : (k : tie.After-enter) → readOf asSource (k .before .before .args .text .now) (k .before .before .args .start) (k .before .before .args .hashes) ≡ leftOf asSource (k .before .before .args .text .now) (k .before .before .args .start .place) (k .enter .result)
-left k = k .enter .ensures .0
-
 returns : tie.Need-returns
-unfolding leftOf
+unfolding readOf
 returns c =
-    let entered = c .before .before .before in
-    sym (rw (left entered, c .before .opened .given .1) (cut-fails _ _ _ _ _))
+    let opened = c .before .before .before in
+    sym (rw (← opened .«open» .ensures, c .before .refusal .given .1) (cut-fails _ _ _ _ _))
+
+-- the body that the opening leads to
+module _ (k : tie.After-k) where
+  abbrev start : tie.Start
+  start = k .before .before .before .before
+
+  leads : openedOf (start .args .text .now) (start .args .start) (start .args .hashes) ≡ At (k .k .given .0 .0) (k .k .given .0 .1 .0)
+  leads = sym (k .before .before .«open» .ensures) ∙ k .k .given .1
+
+  closes : 1 ≤ k .k .given .0 .0
+  closes = subst (Leads (start .args .text .now) (start .args .start .at)) leads (opened-leads _ (start .args .start) (start .args .hashes)) .0
 
 returns-2 : tie.Need-returns-2
-returns-2 c =
-    let entered = c .before .before .before .before in
-    c .body-of .ensures ∙ sym (rw (left entered, c .before .before .opened2 .given .1))
+unfolding readOf
+returns-2 c = c .body-of .ensures ∙ sym (rw (leads (c .before .before)))
 
 pub measure-spec : {M : Type 1} → statement M
 measure-spec =
     tie.close
     (tie.spec
-    (λ c κs. c .before .pre)
+    (λ c κs. search needs)
     (λ c. search needs)
     returns
     (λ c. search needs)
-    (λ c κs. rw (c .before .opened2 .given .1) at (c .before .before .before .enter .ensures .1))
+    (λ c κs. closes (c .before))
     returns-2)
