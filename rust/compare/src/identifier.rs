@@ -25,7 +25,9 @@ pub fn run(report: &mut Report, size: Size) {
     identifiers.short_texts(&books, size);
     identifiers.near_words(&books);
     identifiers.random_texts(&books, size);
-    identifiers.compare(Start::front(&longest_text(), (1, 1)), &books.source);
+    if size == Size::All {
+        identifiers.compare(Start::front(&longest_text(), (1, 1)), &books.source);
+    }
     identifiers.refused(&books);
 }
 
@@ -197,7 +199,7 @@ impl<'r> Identifiers<'r> {
     }
 
     fn short_texts(&mut self, books: &Books, size: Size) {
-        each_text(&ALPHABET, size.of(4, 5), &mut |text| {
+        each_text(&ALPHABET, size.of(3, 5), &mut |text| {
             self.is_valid(text.as_bytes());
             for book in books.all() {
                 self.compare(Start::front(text, (1, 1)), book);
@@ -235,7 +237,7 @@ impl<'r> Identifiers<'r> {
         ];
         let words = listed().chain(reserved().map(|place| place.text));
         let pieces: Vec<&str> = words.chain(others).collect();
-        let count = size.of(100_000, 1_000_000);
+        let count = size.of(20_000, 1_000_000);
         each_random_start(&pieces, 4, count, &mut |random, start| {
             self.is_valid(start.text);
             self.compare(start, random.one_of(&books.all()));

@@ -19,7 +19,7 @@ pub fn run(report: &mut Report, size: Size) {
     }
 
     let mut random = Random::new(1);
-    for _ in 0..size.of(20_000, 1_000_000) {
+    for _ in 0..size.of(3_000, 1_000_000) {
         let place = random_place(&mut random);
         one_place(report, place);
         two_places(report, place, random_place(&mut random));

@@ -23,8 +23,8 @@ const PIECES: [&str; 13] = [
 pub fn run(report: &mut Report, size: Size) {
     let mut literals = Literals::new(report);
     short_texts(&mut literals, size);
-    literals.random(&SCANS, &PIECES, size.of(60_000, 2_000_000));
-    long_texts(&mut literals);
+    literals.random(&SCANS, &PIECES, size.of(10_000, 2_000_000));
+    long_texts(&mut literals, size);
     if size == Size::All {
         literals.longest(Scan::Resumed(1));
     }
@@ -36,14 +36,14 @@ fn short_texts(literals: &mut Literals, size: Size) {
     let sweep = Sweep {
         front: "",
         alphabet: &ALPHABET,
-        longest: size.of(6, 8),
+        longest: size.of(5, 8),
         places: &[(1, 1)],
         limits: &[0, 1, 2, 3, 4, 5, 6],
         rooms: &[0, 1, 2, 3, 4, 5, 6, AMPLE],
     };
     literals.sweep(&SCANS, &sweep);
     let elsewhere = Sweep {
-        longest: size.of(5, 7),
+        longest: size.of(4, 7),
         places: &PLACES,
         limits: &[0, 2],
         rooms: &[1, AMPLE],
@@ -52,14 +52,14 @@ fn short_texts(literals: &mut Literals, size: Size) {
     literals.sweep(&SCANS, &elsewhere);
     let behind = Sweep {
         front: "é\"#",
-        longest: size.of(5, 6),
+        longest: size.of(4, 6),
         ..elsewhere
     };
     literals.sweep(&SCANS, &behind);
 }
 
 /// Lines and columns that reach 65,535 on the way, and long openings.
-fn long_texts(literals: &mut Literals) {
+fn long_texts(literals: &mut Literals, size: Size) {
     let texts = [
         format!("\"{}\"#", "a".repeat(65_540)),
         format!("\"{}\"#", "\n".repeat(65_540)),
@@ -69,7 +69,7 @@ fn long_texts(literals: &mut Literals) {
         "#".repeat(65_540),
     ];
     for text in &texts {
-        for place in [(1, 1), (1, 65535), (65535, 1)] {
+        for &place in &[(1, 1), (1, 65535), (65535, 1)][..size.of(1, 3)] {
             for scan in SCANS {
                 let start = Start::front(text, place);
                 literals.compare(scan, start, &[0, 65_539], &[65_540, text.len()]);

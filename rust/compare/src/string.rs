@@ -38,8 +38,8 @@ pub fn run(report: &mut Report, size: Size) {
     short_texts(&mut literals, size);
     characters(&mut literals, size);
     escapes(&mut literals, size);
-    literals.random(&SCANS, &PIECES, size.of(60_000, 4_000_000));
-    long_texts(&mut literals);
+    literals.random(&SCANS, &PIECES, size.of(10_000, 4_000_000));
+    long_texts(&mut literals, size);
     if size == Size::All {
         literals.longest(BACKTICK);
     }
@@ -51,7 +51,7 @@ fn short_texts(literals: &mut Literals, size: Size) {
     let sweep = Sweep {
         front: "",
         alphabet: &TOGETHER,
-        longest: size.of(3, 4),
+        longest: size.of(2, 4),
         places: &[(1, 1), (1, 2)],
         limits: &[0, 1, 2, 3, 4, 5, 6],
         rooms: &[0, 1, 2, 3, 4, 5, 6, AMPLE],
@@ -60,13 +60,13 @@ fn short_texts(literals: &mut Literals, size: Size) {
     for (scan, alphabet) in &ALPHABETS {
         let own = Sweep {
             alphabet,
-            longest: size.of(5, 6),
+            longest: size.of(4, 6),
             places: &[(1, 1)],
             ..sweep
         };
         literals.sweep(&[*scan], &own);
         let elsewhere = Sweep {
-            longest: size.of(4, 6),
+            longest: size.of(3, 6),
             places: &PLACES,
             limits: &[0, 2],
             rooms: &[1, AMPLE],
@@ -75,7 +75,7 @@ fn short_texts(literals: &mut Literals, size: Size) {
         literals.sweep(&[*scan], &elsewhere);
         let behind = Sweep {
             front: "é\"",
-            longest: size.of(4, 5),
+            longest: size.of(3, 5),
             ..elsewhere
         };
         literals.sweep(&[*scan], &behind);
@@ -107,10 +107,10 @@ const EDGES: [u32; 10] = [
 /// Every class of digit, every number of four digits, and numbers of eight at the edges.
 fn escapes(literals: &mut Literals, size: Size) {
     each_text(&DIGITS, 2, &mut |digits| escape(literals, 'x', digits));
-    each_text(&DIGITS[..size.of(8, 12)], 4, &mut |digits| {
+    each_text(&DIGITS[..size.of(6, 12)], 4, &mut |digits| {
         escape(literals, 'u', digits)
     });
-    each_text(&['0', '1', 'd', 'F'], size.of(5, 8), &mut |digits| {
+    each_text(&['0', '1', 'd', 'F'], size.of(4, 8), &mut |digits| {
         escape(literals, 'U', digits);
     });
 
@@ -137,7 +137,7 @@ fn escape(literals: &mut Literals, letter: char, digits: &str) {
 }
 
 /// Lines and columns that reach 65,535 on the way.
-fn long_texts(literals: &mut Literals) {
+fn long_texts(literals: &mut Literals, size: Size) {
     let close = |body: String| format!("{}\"'`", body);
     let texts = [
         close("a".repeat(65_540)),
@@ -147,7 +147,7 @@ fn long_texts(literals: &mut Literals) {
         close("\\\n  ".repeat(200)),
     ];
     for text in &texts {
-        for place in [(1, 1), (1, 2), (1, 65534), (1, 65535), (65535, 1)] {
+        for &place in &[(1, 1), (1, 2), (1, 65534), (1, 65535), (65535, 1)][..size.of(1, 5)] {
             for scan in SCANS {
                 let start = Start::front(text, place);
                 literals.compare(scan, start, &[0, 65_539], &[65_540, text.len()]);

@@ -97,7 +97,7 @@ fn near_words(report: &mut Report) {
 fn random_texts(report: &mut Report, size: Size) {
     let mut random = Random::new(2);
     let words: Vec<&str> = listed().collect();
-    for _ in 0..size.of(50_000, 2_000_000) {
+    for _ in 0..size.of(10_000, 2_000_000) {
         let text = random.text(&words, 4);
         lookup(report, text.as_bytes());
         let damaged = random.damaged(text.as_bytes());

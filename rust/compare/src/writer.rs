@@ -22,7 +22,7 @@ pub fn run(report: &mut Report, size: Size) {
         writer.compare(body.as_bytes());
     });
     let mut random = Random::new(1);
-    for _ in 0..size.of(20_000, 1_000_000) {
+    for _ in 0..size.of(5_000, 1_000_000) {
         let body = random.text(&PIECES, 24);
         writer.compare(body.as_bytes());
         let before = random.text(&PIECES, 4);
