@@ -2,3 +2,4 @@ pub mod Cursors
 pub mod Scans
 pub mod Follows
 pub mod Reaches
+pub mod Holds

@@ -1,5 +1,6 @@
 -- Document 01's table of refusals: a fault is its number, the place reported with it, and the part of the script that it is about.
 use Prim.Native.Nat.{ℕ}
+use mathlib.Core.Path.{_≡_}
 use Rattle.position.specs.declared.Position.{Position}
 use Rattle.fault.specs.declared.Part.{Part}
 use Rattle.fault.specs.declared.Fault.{Fault}
@@ -55,3 +56,7 @@ notOneCharacter p = fault 12 p
 -- 13, at the start of the piece before the interpolation
 abbrev pub tooDeep : Position → Fault
 tooDeep p = fault 13 p
+
+-- a fault that no limit and no room causes: neither 7 nor 9 nor 10
+abbrev pub Own : Fault → Type 0
+Own f = (f .number ≡ 7 → ⊥) × (f .number ≡ 9 → ⊥) × (f .number ≡ 10 → ⊥)

@@ -2,22 +2,23 @@
 use Prim.Native.Nat.{ℕ, zero, suc, _+_, _-_}
 use Prim.Native.Char.{code}
 use mathlib.Core.Bool.{Bool, true, false}
-use mathlib.Core.List.{List, [], _∷_}
+use mathlib.Core.List.{List}
 use lib.Dec.{eqb}
 use Rattle.basis.specs.Pick.{pick, either}
 use Rattle.position.specs.declared.Position.{Position}
 use Rattle.position.specs.Place.{advanced, lined}
-use Rattle.utf8.specs.Table.{Ch, lookAt}
+use Rattle.utf8.specs.Table.{lookAt}
 use Rattle.utf8.specs.declared.Look.{Look}
 use Rattle.utf8.specs.declared.Look.the-variants as look
 use Rattle.classes.specs.Class.{isNumericDigit, isIdFirstAlphabetic}
 use Rattle.white.specs.White.{isWhite}
 use Rattle.chars.specs.Cursors.{cursor}
-use Rattle.chars.specs.Scan.{Turn, go, stop, Rule, runAt}
 use Rattle.chars.specs.declared.cursor.Cursor.{Cursor}
+use Rattle.stretch.specs.Stretch.{endOf}
+use Rattle.stretch.specs.declared.Stretch.the-variants as Stretch
 use Rattle.fault.specs.Faults.{part, unexpectedInput, stillOpen}
 use Rattle.token.specs.Tokens as Token
-use Rattle.identifier.specs.Identifiers.{identifyOf, endFrom}
+use Rattle.identifier.specs.Identifiers.{identifyOf}
 use Rattle.identifier.specs.declared.Identified.{Identified}
 use Rattle.identifier.specs.declared.Identified.the-variants as identified
 use Rattle.symbols.specs.Symbols.{longestSymbolOf}
@@ -60,7 +61,7 @@ wordOf (identified.Refused f c) = Wrong f
 
 -- a number: the longest run of ASCII letters, digits and `_`
 unfoldable pub numberOf : List ℕ → Cursor → Found
-numberOf t to = Part number Token.IntegerConstant (endFrom t to)
+numberOf t to = Part number Token.IntegerConstant (endOf Stretch.Word t to)
 
 -- a column on for each of n characters
 unfoldable pub columns : ℕ → Position → Position
@@ -72,17 +73,9 @@ unfoldable pub symbolOf : ℕ → ℕ → Position → Longest → Found
 symbolOf at w p (Symbol token n) = Part symbol token (cursor (at + n) (columns (n - 1) p))
 symbolOf at w p Nothing = Wrong (unexpectedInput p (part at w))
 
--- one turn through the rest of a line: every character takes a column, and LF is not taken
-abbrev pub lineTurn : ℕ → List Ch → Position → Turn Position (Unit {0}) Cursor
-lineTurn at [] p = stop (cursor at p)
-lineTurn at (c ∷ cs) p = pick (eqb (c .code) 0x0A) (stop (cursor at p)) (go tt 0 (advanced p))
-
-abbrev pub lineRule : Rule Position (Unit {0}) Cursor
-lineRule = record { turn = lineTurn; end = λ at p. cursor at p; note = λ n r. r }
-
 -- `//` to before LF, from behind the second character
 unfoldable pub lineOf : List ℕ → Cursor → Found
-lineOf t c = Part comment Token.Comment (runAt lineRule t (c .at) (c .place))
+lineOf t c = Part comment Token.Comment (endOf Stretch.Line t c)
 
 -- `/*` to its end, from behind the second character; 11 at the cursor where a level is still open there
 unfoldable pub blockOf : List ℕ → Cursor → Found
@@ -103,19 +96,23 @@ slashOf t at p d =
 unfoldable pub hashOf : List ℕ → ℕ → Position → ℕ → Found
 hashOf t at p d = pick (eqb d (code "{")) (symbolOf at 1 p (longestSymbolOf t at)) (Literal raw (cursor (at + 1) p))
 
+-- what a character begins that is not white, no letter, no `_` and no digit
+unfoldable pub markOf : List ℕ → ℕ → Position → ℕ → ℕ → Found
+markOf t at p c w =
+    pick (eqb c (code "\"")) (Literal string (cursor (at + w) p))
+    (pick (eqb c (code "'")) (Literal char (cursor (at + w) p))
+    (pick (eqb c (code "`")) (Literal text (cursor (at + w) p))
+    (pick (eqb c (code "#")) (hashOf t at p (codeOf (lookAt t (at + 1))))
+    (pick (eqb c (code "/")) (slashOf t at p (codeOf (lookAt t (at + 1))))
+    (symbolOf at w p (longestSymbolOf t at))))))
+
 -- what a character begins, so many bytes wide, at an offset and a place
 unfoldable pub beginsOf : List ℕ → List ℕ → ℕ → Position → ℕ → ℕ → Found
 beginsOf t book at p c w =
-    let next = cursor (at + w) p in
-    pick (isWhite c) (whiteOf c next)
+    pick (isWhite c) (whiteOf c (cursor (at + w) p))
     (pick (either (isIdFirstAlphabetic c) (eqb c (code "_"))) (wordOf (identifyOf t book (cursor at p)))
-    (pick (isNumericDigit c) (numberOf t next)
-    (pick (eqb c (code "\"")) (Literal string next)
-    (pick (eqb c (code "'")) (Literal char next)
-    (pick (eqb c (code "`")) (Literal text next)
-    (pick (eqb c (code "#")) (hashOf t at p (codeOf (lookAt t (at + 1))))
-    (pick (eqb c (code "/")) (slashOf t at p (codeOf (lookAt t (at + 1))))
-    (symbolOf at w p (longestSymbolOf t at)))))))))
+    (pick (isNumericDigit c) (numberOf t (cursor (at + w) p))
+    (markOf t at p c w)))
 
 abbrev pub onLook : List ℕ → List ℕ → Cursor → Look → Found
 onLook t book s (look.Char c w) = beginsOf t book (s .at) (advanced (s .place)) c w

@@ -10,6 +10,8 @@ use Rattle.chars.specs.Cursors.{getNextOf}
 use Rattle.chars.specs.declared.cursor.Cursor.{Cursor}
 use Rattle.chars.specs.declared.cursor.Taken.the-variants as taken
 use Rattle.chars.proofs.Cursors.{Took, got-took, got-ended, further}
+use Rattle.stretch.specs.Stretch.{endOf}
+use Rattle.stretch.specs.declared.Stretch.the-variants as Stretch
 use Rattle.fault.specs.Faults.{fault}
 use Rattle.keywords.specs.Lookup.{lookupOf}
 use Rattle.token.specs.Tokens as Token
@@ -18,7 +20,7 @@ use Rattle.book.specs.Book.{good}
 use Rattle.reserved.specs.Halving.{halvedOf}
 use Rattle.reserved.proofs.Holds.{halved}
 use Rattle.valid.specs.Valid.{isValidIdentifier}
-use Rattle.identifier.specs.Identifiers.{kindOf, unlisted, listed, classOf, spanned, begun, endFrom, identifyOf}
+use Rattle.identifier.specs.Identifiers.{kindOf, unlisted, listed, classOf, spanned, begun, identifyOf}
 use Rattle.identifier.specs.declared.Class.the-variants.{Is, Malformed}
 use Rattle.identifier.specs.declared.Identified.the-variants.{Refused}
 
@@ -69,11 +71,11 @@ module _ (t book : List ℕ) (s : Cursor) where
   nothing-there q = rw (got-ended t s q)
 
   module _ {c : ℕ} {first : Cursor} (q : getNextOf t s ≡ taken.Char c first) where
-    pub begins-here : identifyOf t book s ≡ spanned t book s (endFrom t first)
+    pub begins-here : identifyOf t book s ≡ spanned t book s (endOf Stretch.Word t first)
     unfolding identifyOf begun
     begins-here =
         let k : Took t (s .at) (s .place) c first = got-took t s q in
-        rw (k .found) (ap (λ (x : Cursor). spanned t book s (endFrom t x)) (sym (k .stands)))
+        rw (k .found) (ap (λ (x : Cursor). spanned t book s (endOf Stretch.Word t x)) (sym (k .stands)))
 
     pub first-within : (s .at < first .at) × (first .at ≤ length t)
     first-within = further t (s .at) (s .place) (got-took t s q)

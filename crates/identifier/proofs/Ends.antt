@@ -1,32 +1,44 @@
--- Where an identifier ends, for each way through the loop. Assumes nothing.
+-- A word ends further on, within the text. Assumes nothing.
 use Prim.Native.Nat.{ℕ, _+_, _≤_, _<_}
-use mathlib.Core.Bool.{true, false}
-use mathlib.Core.List.{List, _∷_}
-use mathlib.Core.Path.{_≡_, refl, sym, ap, _∙_}
-use Rattle.position.specs.Place.{advanced}
+use native.Mathlib.Omega.{arith}
+use mathlib.Core.List.{List}
+use mathlib.Core.Path.{_≡_, refl, sym, _∙_}
+use lib.ListN.{length}
 use Rattle.utf8.specs.Table.{lookAt}
+use Rattle.utf8.specs.declared.Look.{Look}
 use Rattle.utf8.specs.declared.Look.the-variants as look
-use Rattle.classes.specs.Class.{isIdContinue}
-use Rattle.chars.specs.Cursors.{cursor, eatNextOf}
+use Rattle.utf8.proofs.Laws.{at-width}
+use Rattle.chars.specs.Cursors.{cursor}
 use Rattle.chars.specs.declared.cursor.Cursor.{Cursor}
-use Rattle.chars.specs.declared.cursor.Taken.the-variants as taken
-use Rattle.chars.proofs.Cursors.{Took, ate-took, ate-ended}
-use Rattle.chars.proofs.Scans.{move-on, move-over, at-end, one-on, is-over}
-use Rattle.identifier.specs.Identifiers.{rule, endFrom}
+use Rattle.fault.specs.Faults.{Own}
+use Rattle.stretch.specs.Stretch.{endOf}
+use Rattle.stretch.specs.declared.Stretch.the-variants as Stretch
+use Rattle.stretch.proofs.Ends.{end-reached}
+use Rattle.identifier.specs.Identifiers.{answered, spanned, begun, identifyOf, classOf, between}
+use Rattle.identifier.specs.declared.Word.{Word}
+use Rattle.identifier.specs.declared.Class.{Class}
+use Rattle.identifier.specs.declared.Class.the-variants.{Is, Malformed}
+use Rattle.identifier.specs.declared.Identified.{Identified}
+use Rattle.identifier.specs.declared.Identified.the-variants.{Found, Refused}
 
-module _ (t : List ℕ) (s : Cursor) where
-  pub ended : eatNextOf t s ≡ taken.End → endFrom t s ≡ s
-  unfolding endFrom
-  ended q = move-over rule t (s .at) (s .place) (at-end rule t (s .at) (s .place) (ate-ended t s q))
+module _ (t book : List ℕ) (s : Cursor) where
+  abbrev pub Ahead : Identified → Type 0
+  Ahead (Found w) = (s .at < w .cursor .at) × (w .cursor .at ≤ length t)
+  Ahead (Refused f e) = Own f
 
-  module _ {c : ℕ} {next : Cursor} (q : eatNextOf t s ≡ taken.Char c next) where
-    k : Took t (s .at) (advanced (s .place)) c next
-    k = ate-took t s q
+  answered-ahead : (e : Cursor) → (s .at < e .at) × (e .at ≤ length t) → (x : Class) → Ahead (answered s e x)
+  unfolding answered
+  answered-ahead e h (Is k w) = h
+  answered-ahead e h Malformed = (λ q. omega arith, λ q. omega arith, λ q. omega arith)
 
-    pub passed : isIdContinue c ≡ true → endFrom t s ≡ endFrom t next
-    unfolding endFrom
-    passed y = rw (k .stands) (move-on rule t (s .at) (s .place) (one-on rule t (s .at) (s .place) (k .found) (rw y)))
+  begun-ahead : (x : Look) → lookAt t (s .at) ≡ x → Ahead (begun t book s x)
+  unfolding begun spanned
+  begun-ahead (look.Char c w) e =
+      let h = at-width t (s .at) e in
+      let r = end-reached Stretch.Word t (cursor (s .at + w) (s .place)) in
+      answered-ahead _ (omega (arith, h, r .0), r .1 (h .1)) _
+  begun-ahead look.End e = (λ q. omega arith, λ q. omega arith, λ q. omega arith)
 
-    pub stopped : isIdContinue c ≡ false → endFrom t s ≡ s
-    unfolding endFrom
-    stopped n = move-over rule t (s .at) (s .place) (is-over rule t (s .at) (s .place) (k .found) (rw n))
+  pub identified-ahead : Ahead (identifyOf t book s)
+  unfolding identifyOf
+  identified-ahead = begun-ahead (lookAt t (s .at)) refl

@@ -17,14 +17,15 @@ use lib.ListN.{length, getD, take, drop}
 use Rattle.basis.specs.Pick.{pick, either, isnt}
 use Rattle.position.specs.Place.{onLine, advanced}
 use Rattle.position.specs.declared.Position.{Position}
-use Rattle.utf8.specs.Table.{Ch, lookAt}
+use Rattle.utf8.specs.Table.{lookAt}
 use Rattle.utf8.specs.declared.Look.{Look}
 use Rattle.utf8.specs.declared.Look.the-variants as look
 use Rattle.classes.specs.Class.{isIdFirstAlphabetic, isIdContinue}
 use Rattle.chars.specs.Cursors.{cursor}
 use Rattle.door.specs.Door.{doorOf}
-use Rattle.chars.specs.Scan.{Turn, go, stop, Rule, runAt}
 use Rattle.chars.specs.declared.cursor.Cursor.{Cursor}
+use Rattle.stretch.specs.Stretch.{endOf}
+use Rattle.stretch.specs.declared.Stretch.the-variants as Stretch
 use Rattle.fault.specs.Faults.{part, fault, malformedIdentifier}
 use Rattle.keywords.specs.Lookup.{lookupOf}
 use Rattle.token.specs.Tokens as Token
@@ -38,19 +39,6 @@ use Rattle.identifier.specs.declared.Class.{Class}
 use Rattle.identifier.specs.declared.Class.the-variants.{Is, Malformed}
 use Rattle.identifier.specs.declared.Identified.{Identified}
 use Rattle.identifier.specs.declared.Identified.the-variants.{Found, Refused}
-
--- one turn: a character that goes on is taken, with its column; any other ends the identifier before it
-abbrev pub turn : ℕ → List Ch → Position → Turn Position (Unit {0}) Cursor
-turn at [] p = stop (cursor at p)
-turn at (c ∷ cs) p = pick (isIdContinue (c .code)) (go tt 0 (advanced p)) (stop (cursor at p))
-
--- the rule for the driver of every scanner
-abbrev pub rule : Rule Position (Unit {0}) Cursor
-rule = record { turn = turn; end = λ at p. cursor at p; note = λ n r. r }
-
--- behind every character that goes on
-unfoldable pub endFrom : List ℕ → Cursor → Cursor
-endFrom t s = runAt rule t (s .at) (s .place)
 
 -- the kind of a listed word: 2 for a keyword, of letters, and 3 for a symbol
 unfoldable pub kindOf : List ℕ → ℕ
@@ -84,7 +72,7 @@ spanned t book s e = answered s e (classOf book (between t s e))
 
 -- the first character is taken, whichever it is, and its place is the one given; none there is 3
 unfoldable pub begun : List ℕ → List ℕ → Cursor → Look → Identified
-begun t book s (look.Char c w) = spanned t book s (endFrom t (cursor (s .at + w) (s .place)))
+begun t book s (look.Char c w) = spanned t book s (endOf Stretch.Word t (cursor (s .at + w) (s .place)))
 begun t book s look.End = Refused (fault 3 (s .place)) s
 
 -- the identifier that begins at a cursor, under a good book

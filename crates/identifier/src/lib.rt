@@ -1,15 +1,14 @@
 // Identifiers: the scan of the Rust's `parse_identifier_token`, from a cursor. The entry is `identifier_token`.
 ghost use mathlib.Core.Path.{_≡_};
 ghost use mathlib.Core.Bool.{true};
-ghost use Prim.Native.Nat.{_≤_};
-ghost use lib.ListN.{length};
 ghost use Rattle.token.specs.Table.{table};
 ghost use Rattle.book.specs.Book.{good};
-ghost use Rattle.identifier.specs.Identifiers.{endFrom, kindOf, listed, classOf, identifyOf};
+ghost use Rattle.identifier.specs.Identifiers.{kindOf, listed, classOf, identifyOf};
 use chars::cursor::Cursor;
 use chars::cursor::Taken;
 use fault::Fault;
 use fault::Part;
+use stretch::Stretch;
 use token::Lookup;
 
 // What stands at a place: its kind, its token, and the cursor behind it.
@@ -39,24 +38,6 @@ pub enum Identified {
 enum Class {
     Is(u8, u8),
     Malformed,
-}
-
-// Behind every character that goes on an identifier.
-fn end_from(text: &[u8], start: Cursor) -> Cursor
-    ensures { λ r. ⌜ r ≡ endFrom (now (text .entry)) start ⌝ }
-    ensures { λ r. ⌜ (start .at ≤ r .at) × (start .at ≤ length (now (text .entry)) → r .at ≤ length (now (text .entry))) ⌝ }
-{
-    let mut cursor = start;
-    loop {
-        let Taken::Char(c, next) = cursor.eat_next_and_advance(text) else {
-            return cursor;
-        };
-        if classes::is_id_continue(c) {
-            cursor = next;
-        } else {
-            return cursor;
-        }
-    }
 }
 
 // The kind of a listed word: a keyword is of letters, and any other is a symbol.
@@ -113,7 +94,7 @@ pub fn identify(words: &[u8], book: &[u8], text: &[u8], start: Cursor) -> Identi
             start,
         );
     };
-    let end = end_from(text, first);
+    let end = stretch::end_of(Stretch::Word, text, first);
     let at = start.at;
     let to = end.at;
     let Class::Is(kind, token) = class_of(words, book, &text[at..to]) else {

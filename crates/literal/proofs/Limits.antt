@@ -11,6 +11,7 @@ use lib.ListN.{length, length-append}
 use borrow.Author.Tests.{le-ltb, ltb-false, eq-eqb, ne-eqb, le-leb, leb-true, leb-false}
 use Rattle.basis.specs.Pick.{pick}
 use Rattle.basis.proofs.Cases.{pick-cases}
+use Rattle.fault.specs.Faults.{Own}
 use Rattle.literal.specs.Trace.{Trace, ends, fails, adds, checks, bytes, final, good, bad, passes}
 use Rattle.literal.specs.Cut.{cut, answer}
 use Rattle.literal.specs.Told.{number}
@@ -130,3 +131,11 @@ module _ (full : Refusal) (limit room : ℕ) (f : Refusal) (z : (f .fault .numbe
 
 pub cut-at-the-first : Cut-at-the-first
 cut-at-the-first full limit room t f sv h z = first full limit room f z 0 t sv h
+
+-- a refusal by a rule of its own is neither 7 nor 9 nor 10
+pub own-refusal : (t : Trace) (f : Refusal) → Sevens t → final t ≡ bad f → Own (f .fault)
+unfolding final
+own-refusal (ends e) f sv h = absurd (let q : _≡_ {A = ℕ} 0 1 = cc in omega arith)
+own-refusal (fails g) f sv h = let q : g ≡ f = cc in rw (← q) sv
+own-refusal (adds bs t) f sv h = own-refusal t f sv h
+own-refusal (checks g t) f sv h = own-refusal t f (sv .1) h

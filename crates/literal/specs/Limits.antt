@@ -5,6 +5,7 @@ use mathlib.Core.List.{List}
 use mathlib.Core.Logic.{_⊎_}
 use mathlib.Core.Path.{_≡_}
 use lib.ListN.{length}
+use Rattle.fault.specs.Faults.{Own}
 use Rattle.literal.specs.Trace.{Trace, ends, fails, adds, checks, bytes, final, good, passes}
 use Rattle.literal.specs.Cut.{cut, answer}
 use Rattle.literal.specs.Told.{number}
@@ -16,10 +17,10 @@ use Rattle.literal.specs.declared.Scanned.the-variants.{Accepted, Refuse
 abbrev pub Looser : ℕ → ℕ → Type 0
 Looser l m = (m ≡ 0) ⊎ ((0 < l) × (l ≤ m))
 
--- every test of the limit refuses with 7, and no rule of its own does with 7 or 9
+-- every test of the limit refuses with 7, and no rule of its own does with 7, 9 or 10
 abbrev pub Sevens : Trace → Type 0
 Sevens (ends e) = Unit {0}
-Sevens (fails f) = (f .fault .number ≡ 7 → ⊥) × (f .fault .number ≡ 9 → ⊥)
+Sevens (fails f) = Own (f .fault)
 Sevens (adds bs t) = Sevens t
 Sevens (checks f t) = (f .fault .number ≡ 7) × Sevens t
 

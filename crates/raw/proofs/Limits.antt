@@ -28,7 +28,7 @@ module _ (lines : Bool) (t : List ℕ) where
   trace-sevens : (n : ℕ) (start : Cursor) (k : ℕ) → n ≤ 3 → Sevens (traceOf lines n t start k)
   unfolding traceOf
   trace-sevens n start k h =
-      pick-cases Sevens (eqb n 0) (readOf lines t start k) (fails (refused n start)) (λ q. read-sevens lines t start k) (λ q. (λ p. omega arith, λ p. omega arith))
+      pick-cases Sevens (eqb n 0) (readOf lines t start k) (fails (refused n start)) (λ q. read-sevens lines t start k) (λ q. (λ p. omega arith, λ p. omega arith, λ p. omega arith))
 
   module _ (at : ℕ) (p : Position) where
     -- entered after the first hash

@@ -4,3 +4,4 @@ pub mod Loops
 pub mod Stands
 pub mod Readings
 pub mod Limits
+pub mod Lands

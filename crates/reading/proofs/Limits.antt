@@ -13,7 +13,7 @@ use Rattle.basis.specs.Pick.{pick}
 use Rattle.basis.proofs.Cases.{pick-cases}
 use Rattle.position.specs.declared.Position.{Position}
 use Rattle.fault.specs.declared.Fault.{Fault}
-use Rattle.fault.specs.Faults.{noTokenRoom}
+use Rattle.fault.specs.Faults.{noTokenRoom, Own}
 use Rattle.chars.specs.declared.cursor.Cursor.{Cursor}
 use Rattle.literal.specs.declared.End.{End}
 use Rattle.literal.specs.declared.Refusal.{Refusal}
@@ -23,14 +23,13 @@ use Rattle.literal.specs.Trace.{Trace, bytes, final, Outcome, good, bad, passes
 use Rattle.literal.specs.Told.{number}
 use Rattle.literal.specs.Cut.{cut, answer}
 use Rattle.literal.specs.Limits.{Looser, Sevens, Cuts}
-use Rattle.literal.proofs.Limits.{accepted-whole, uncut-within, recurs-whole, cut-at-the-first, stays-accepted, not-accepted}
+use Rattle.literal.proofs.Limits.{accepted-whole, uncut-within, recurs-whole, cut-at-the-first, stays-accepted, not-accepted, own-refusal}
 use Rattle.reading.specs.declared.Ending.{Ending}
 use Rattle.reading.specs.declared.Ending.the-variants.{Stop}
-use Rattle.reading.specs.Reading.{Reading, over, halts, spoils, lists, reads, Entry, entry, Left, ended, more, onEnd, whole}
+use Rattle.reading.specs.declared.Entry.{Entry}
+use Rattle.reading.specs.Reading.{Reading, over, halts, spoils, lists, reads, entry, Left, ended, more, onEnd, whole}
 use Rattle.reading.specs.CutRun.{Bounds, full, scanned, onScan, cutRun}
 use Rattle.reading.specs.Limits.{
-  Own,
-  Fair-literal,
   Fair,
   Wider,
   Begins,
@@ -50,7 +49,7 @@ use Rattle.reading.specs.Limits.{
 
 -- ---- cases
 -- what holds of a run that goes on behind a scan, and of one that the scan stops, holds of what the scan leads to
-on-scan : (P : Left → Type 0) (a : Scanned) (next : ℕ → Left) → ((e : End) (m : ℕ) → a ≡ Accepted e m → P (next m)) → ((f : Refusal) → a ≡ Refused f → P (ended (Stop (f .fault)))) → P (onScan a next)
+pub on-scan : (P : Left → Type 0) (a : Scanned) (next : ℕ → Left) → ((e : End) (m : ℕ) → a ≡ Accepted e m → P (next m)) → ((f : Refusal) → a ≡ Refused f → P (ended (Stop (f .fault)))) → P (onScan a next)
 on-scan P (Accepted e m) next h g = h e m refl
 on-scan P (Refused f) next h g = g f refl
 
@@ -141,7 +140,7 @@ module _ (b c : Bounds) (w : Wider b c) where
   recur n used (spoils s t f) fair =
       on-scan (λ (l : Left). Ends-own l → onScan (scanned c used s t) (λ m. ended (Stop f)) ≡ l) (scanned b used s t) (λ m. ended (Stop f))
       (λ e m h own. rw (accepted-wider b c w used s t e m h))
-      (λ g h own. rw (refused-wider b c w used s t g (fair .0 .0) (own _ refl) h))
+      (λ g h own. rw (refused-wider b c w used s t g (fair .0) (own _ refl) h))
   recur n used (lists k p q r) fair =
       pick-cases (λ (l : Left). Ends-own l → cutRun c n used (lists k p q r) ≡ l) (ltb n (b .entries)) _ _
       (λ h own. rw (in-wider n _ _ (w .2) h) (ap (more (entry k p (q .at) (q .len)) []) (recur (n + 1) used r fair own)))
@@ -153,7 +152,7 @@ module _ (b c : Bounds) (w : Wider b c) where
       (pick-cases (λ (l : Left). Ends-own l → pick (ltb n (c .entries)) (more (entry k (s .place) used m) (bytes t) (cutRun c (n + 1) (used + m) r)) (ended (Stop (noTokenRoom (s .place)))) ≡ l) (ltb n (b .entries)) _ _
       (λ g own. rw (in-wider n _ _ (w .2) g) (ap (more (entry k (s .place) used m) (bytes t)) (recur (n + 1) (used + m) r (fair .1) own)))
       (λ g own. not-ten (s .place) own)))
-      (λ g h own. rw (refused-wider b c w used s t g (fair .0 .0) (own _ refl) h))
+      (λ g h own. rw (refused-wider b c w used s t g (fair .0) (own _ refl) h))
 
 pub recurs : Recurs
 recurs b c r fair w own = recur b c w 0 0 r fair own
@@ -178,7 +177,7 @@ module _ (b : Bounds) where
   is-all n used (spoils s t f) fair =
       on-scan (λ (l : Left). Ends-own l → l ≡ onEnd (final t) (ended (Stop f))) (scanned b used s t) _
       (λ e m h own. rw (accepted-whole _ _ _ t e m h .2))
-      (λ g h own. rw (refused-whole used s t g (fair .0 .0) (own _ refl .0, own _ refl .1) h))
+      (λ g h own. rw (refused-whole used s t g (fair .0) (own _ refl .0, own _ refl .1) h))
   is-all n used (lists k p q r) fair =
       pick-cases (λ (l : Left). Ends-own l → l ≡ whole used (lists k p q r)) (ltb n (b .entries)) _ _
       (λ h own. ap (more (entry k p (q .at) (q .len)) []) (is-all (n + 1) used r fair own))
@@ -191,7 +190,7 @@ module _ (b : Bounds) where
       (pick-cases (λ (l : Left). Ends-own l → l ≡ more (entry k (s .place) used m) (bytes t) (whole (used + m) r)) (ltb n (b .entries)) _ _
       (λ g own. ap (more (entry k (s .place) used m) (bytes t)) (is-all (n + 1) (used + m) r (fair .1) own))
       (λ g own. not-ten (s .place) own)))
-      (λ g h own. rw (refused-whole used s t g (fair .0 .0) (own _ refl .0, own _ refl .1) h))
+      (λ g h own. rw (refused-whole used s t g (fair .0) (own _ refl .0, own _ refl .1) h))
 
 pub is-whole : Is-whole
 is-whole b r fair own = is-all b 0 0 r fair own
@@ -213,11 +212,11 @@ module _ (b : Bounds) (f : Fault) (z : Cut-by f) where
   seven-or-nine g never e (inr (inl x)) = inr (rw e x)
   seven-or-nine g never e (inr (inr x)) = absurd (never (rw e x))
 
-  no-ten : (used : ℕ) (s : Cursor) (t : Trace) (g : Refusal) → Fair-literal t → scanned b used s t ≡ Refused g → g .fault .number ≡ 10 → ⊥
-  no-ten used s t g fair h e = fair .1 g (refused-whole b used s t g (fair .0) ((λ x. omega (arith, e, x)), (λ x. omega (arith, e, x))) h) e
+  no-ten : (used : ℕ) (s : Cursor) (t : Trace) (g : Refusal) → Sevens t → scanned b used s t ≡ Refused g → g .fault .number ≡ 10 → ⊥
+  no-ten used s t g fair h e = own-refusal t g fair (refused-whole b used s t g fair ((λ x. omega (arith, e, x)), (λ x. omega (arith, e, x))) h) .2 e
 
-  cuts : (used : ℕ) (s : Cursor) (t : Trace) (g : Refusal) → Fair-literal t → scanned b used s t ≡ Refused g → g .fault ≡ f → Cuts (full s) (b .limit) (b .literals - used) 0 t g
-  cuts used s t g fair h e = cut-at-the-first (full s) _ _ t g (fair .0) h (seven-or-nine (g .fault) (no-ten used s t g fair h) e z)
+  cuts : (used : ℕ) (s : Cursor) (t : Trace) (g : Refusal) → Sevens t → scanned b used s t ≡ Refused g → g .fault ≡ f → Cuts (full s) (b .limit) (b .literals - used) 0 t g
+  cuts used s t g fair h e = cut-at-the-first (full s) _ _ t g fair h (seven-or-nine (g .fault) (no-ten used s t g fair h) e z)
 
   stops : (n used : ℕ) (r : Reading) → Fair r → cutRun b n used r .ending ≡ Stop f → Passes b n used r (cutRun b n used r .listed) f
   unfolding cutRun

@@ -11,7 +11,8 @@ use Rattle.literal.specs.declared.Scanned.{Scanned}
 use Rattle.literal.specs.declared.Scanned.the-variants.{Accepted, Refused}
 use Rattle.literal.specs.Trace.{Trace, bytes}
 use Rattle.literal.specs.Cut.{cut}
-use Rattle.reading.specs.Reading.{Reading, over, halts, spoils, lists, reads, Entry, entry, Left, ended, more}
+use Rattle.reading.specs.declared.Entry.{Entry}
+use Rattle.reading.specs.Reading.{Reading, over, halts, spoils, lists, reads, entry, Left, ended, more}
 use Rattle.reading.specs.declared.Ending.the-variants.{End, Stop}
 
 -- the limit on a literal's bytes, 0 for none; the literal bytes and the entries that there is room for

@@ -1,3 +1,5 @@
 pub mod Reading
 pub mod CutRun
 pub mod Limits
+pub mod Entries
+pub mod Told

@@ -7,32 +7,25 @@ use lib.ListN.{length}
 use Rattle.position.specs.declared.Position.{Position}
 use Rattle.fault.specs.declared.Part.{Part}
 use Rattle.fault.specs.declared.Fault.{Fault}
-use Rattle.fault.specs.Faults.{noTokenRoom}
+use Rattle.fault.specs.Faults.{noTokenRoom, Own}
 use Rattle.chars.specs.declared.cursor.Cursor.{Cursor}
 use Rattle.literal.specs.declared.End.{End}
 use Rattle.literal.specs.declared.Refusal.{Refusal}
 use Rattle.literal.specs.declared.Scanned.the-variants.{Accepted}
-use Rattle.literal.specs.Trace.{Trace, bytes, final, bad}
+use Rattle.literal.specs.Trace.{Trace, bytes}
 use Rattle.literal.specs.Limits.{Looser, Sevens, Cuts}
-use Rattle.reading.specs.Reading.{Reading, over, halts, spoils, lists, reads, Entry, entry, Left, whole}
+use Rattle.reading.specs.declared.Entry.{Entry}
+use Rattle.reading.specs.Reading.{Reading, over, halts, spoils, lists, reads, entry, Left, whole}
 use Rattle.reading.specs.CutRun.{Bounds, full, scanned, cutRun}
 use Rattle.reading.specs.declared.Ending.the-variants.{Stop}
 
--- a fault that no limit and no room causes
-abbrev pub Own : Fault → Type 0
-Own f = (f .number ≡ 7 → ⊥) × (f .number ≡ 9 → ⊥) × (f .number ≡ 10 → ⊥)
-
--- in a literal's reading only a test of the limit is 7, and no rule of its own is 7, 9 or 10
-abbrev pub Fair-literal : Trace → Type 0
-Fair-literal t = Sevens t × ((f : Refusal) → final t ≡ bad f → f .fault .number ≡ 10 → ⊥)
-
--- and so in a script's
+-- in a script's reading, as in its literals', only a test of the limit is 7, and no rule of its own is 7, 9 or 10
 abbrev pub Fair : Reading → Type 0
 Fair (over p) = Unit {0}
 Fair (halts f) = Own f
-Fair (spoils s t f) = Fair-literal t × Own f
+Fair (spoils s t f) = Sevens t × Own f
 Fair (lists k p q r) = Fair r
-Fair (reads k s t r) = Fair-literal t × Fair r
+Fair (reads k s t r) = Sevens t × Fair r
 
 -- the bounds c are nowhere stricter than b
 abbrev pub Wider : Bounds → Bounds → Type 0

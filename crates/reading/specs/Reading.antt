@@ -7,6 +7,7 @@ use Rattle.fault.specs.declared.Part.{Part}
 use Rattle.fault.specs.declared.Fault.{Fault}
 use Rattle.chars.specs.declared.cursor.Cursor.{Cursor}
 use Rattle.literal.specs.Trace.{Trace, bytes, final, Outcome, good, bad}
+use Rattle.reading.specs.declared.Entry.{Entry}
 use Rattle.reading.specs.declared.Ending.{Ending}
 use Rattle.reading.specs.declared.Ending.the-variants.{End, Stop}
 
@@ -18,13 +19,7 @@ pub data Reading : Type 0 where
   lists : ℕ → Position → Part → Reading → Reading
   reads : ℕ → Cursor → Trace → Reading → Reading
 
--- an entry: a token's kind, its place, and where it stands and how long it is, in the script or, for a literal, in the packed literal bytes
-pub record Entry : Type 0 where
-  pub kind : ℕ
-  pub place : Position
-  pub at : ℕ
-  pub len : ℕ
-
+-- a token's entry
 abbrev pub entry : ℕ → Position → ℕ → ℕ → Entry
 entry k p a n = record { kind = k; place = p; at = a; len = n }
 

@@ -1,4 +1,4 @@
-// How a run over a script ends.
+// What a run over a script lists, and how it ends.
 use fault::Fault;
 use position::Position;
 
@@ -6,4 +6,12 @@ use position::Position;
 pub enum Ending {
     End(Position),
     Stop(Fault),
+}
+
+// A token's kind, its place, and where it stands and how long it is, in the script or, for a literal, in the packed literal bytes.
+pub struct Entry {
+    pub kind: u8,
+    pub place: Position,
+    pub at: usize,
+    pub len: usize,
 }

@@ -20,6 +20,7 @@ use Rattle.contents.specs.Contents as Contents
 use Rattle.book.specs.Book as Book
 use Rattle.reserved.specs.Lookup as Reserved
 use Rattle.valid.specs.Valid as Valid
+use Rattle.stretch.specs.Stretch as Stretch
 use Rattle.identifier.specs.Identifiers as Identifiers
 use Rattle.symbols.specs.Symbols as Symbols
 use Rattle.comment.specs.Block as Block
@@ -35,7 +36,8 @@ use Rattle.raw_open.specs.Opening as Open
 use Rattle.raw_scan.specs.Raw as Raw
 use Rattle.reading.specs.declared.Ending.{Ending}
 use Rattle.reading.specs.declared.Ending.the-variants.{End, Stop}
-use Rattle.reading.specs.Reading.{Entry, entry, whole}
+use Rattle.reading.specs.declared.Entry.{Entry}
+use Rattle.reading.specs.Reading.{entry, whole}
 use Rattle.find.specs.Find as Find
 use Rattle.script.specs.States as States
 use Rattle.script.specs.Steps as Steps
@@ -78,7 +80,7 @@ pub record Worked : Type 0 where
   pub open-piece : Leaves "`${}" (entry 6 (place 1 1) 0 0 ∷ entry 3 (place 1 3) 2 1 ∷ entry 3 (place 1 4) 3 1 ∷ []) "" (Stop (fault 11 (place 1 5)))
 
 pub worked : Worked
-unfolding word none isNone up advanced lined rewound orElse onLine columnNumber beginsLine look lookAt charsFrom chars charsAt wellFrom well edge isScalar encode encoded Class.digitOf isWhite getNextOf eatNextOf run runAt widths yields bytes Escapes.letterOf Escapes.digitsAfter Escapes.digitsFrom Escapes.numberOf Escapes.escapedOf isVerbatim isContinued isInterpolated unterminatedAt malformedAt isEmpty columnOf nextIs endOf dollarOf takeOf closeOf lineFeedOf escapeOf addOf plainOf otherOf matchOf actOf argumentAt tooLongAt fullAt lastOf String.turnOf String.rule String.begun String.readingOf Open.cutOff Open.openingTurn Open.openedOf Raw.heldBack Raw.placed Raw.atEnd Raw.turn Raw.bodyOf Raw.readOf Block.turn Block.commentOf Class.isNumericDigit Class.isIdFirstAlphabetic Class.isIdContinue Identifiers.endFrom Identifiers.kindOf Identifiers.unlisted Identifiers.listed Identifiers.classOf Identifiers.answered Identifiers.spanned Identifiers.begun Identifiers.identifyOf Valid.afterUnderscores Valid.goesOn Valid.isValidIdentifier Valid.letterFirst Symbols.isSymbol Symbols.stands Symbols.standing Symbols.longer Symbols.longestIn Symbols.longestOf Symbols.longestSymbolOf final whole States.begun States.movedTo States.interpolated States.count States.opened States.closed States.behind Steps.terminatorOf Steps.traceOf Steps.wrongOf Steps.faultOf Steps.listedOf Steps.literalOf Steps.endOf Steps.stepOf States.counted States.resumed Find.whiteOf Find.wordOf Find.numberOf Find.columns Find.symbolOf Find.lineOf Find.blockOf Find.slashOf Find.hashOf Find.beginsOf Find.findOf Script.readingFrom Script.scriptFrom Script.scriptOf start Look.begins Look.same Look.lookupIn Look.lookupOf Reserved.Stands Reserved.firstOf Reserved.isA Reserved.isB Reserved.answerOf Reserved.answered Reserved.reservedOf Reserved.eitherBook Reserved.heldOf Reserved.partOf Reserved.placeOf Reserved.foundPart Reserved.foundPlace Table.starts Table.gap Table.firstPlace Table.nextPlace Table.textsOf Table.textStart Table.tabulated Table.table Table.placeOf Keywords.keywords Keywords.entryAt Book.few Book.runsOn Book.ascii Book.sized Book.flagged Book.fit Book.allFit Book.belowNext Book.rising Book.good Book.checkOf Contents.u16At Contents.count Contents.startAt Contents.sizeAt Contents.wordAt Contents.wordsFrom Contents.words Contents.enough Contents.rowsOf Contents.rowOf Order.compared Order.below Order.same
+unfolding word none isNone up advanced lined rewound orElse onLine columnNumber beginsLine look lookAt charsFrom chars charsAt wellFrom well edge isScalar encode encoded Class.digitOf isWhite getNextOf eatNextOf run runAt widths yields bytes Escapes.letterOf Escapes.digitsAfter Escapes.digitsFrom Escapes.numberOf Escapes.escapedOf isVerbatim isContinued isInterpolated unterminatedAt malformedAt isEmpty columnOf nextIs endOf dollarOf takeOf closeOf lineFeedOf escapeOf addOf plainOf otherOf matchOf actOf argumentAt tooLongAt fullAt lastOf String.turnOf String.rule String.begun String.readingOf Open.cutOff Open.openingTurn Open.openedOf Raw.heldBack Raw.placed Raw.atEnd Raw.turn Raw.bodyOf Raw.readOf Block.turn Block.commentOf Class.isNumericDigit Class.isIdFirstAlphabetic Class.isIdContinue Stretch.goesOn Stretch.endOf Identifiers.kindOf Identifiers.unlisted Identifiers.listed Identifiers.classOf Identifiers.answered Identifiers.spanned Identifiers.begun Identifiers.identifyOf Valid.afterUnderscores Valid.goesOn Valid.isValidIdentifier Valid.letterFirst Symbols.isSymbol Symbols.stands Symbols.standing Symbols.longer Symbols.longestIn Symbols.longestOf Symbols.longestSymbolOf final whole States.begun States.movedTo States.interpolated States.count States.opened States.closed States.behind Steps.terminatorOf Steps.traceOf Steps.wrongOf Steps.faultOf Steps.listedOf Steps.literalOf Steps.endOf Steps.stepOf States.counted States.resumed Find.whiteOf Find.wordOf Find.numberOf Find.columns Find.symbolOf Find.lineOf Find.blockOf Find.slashOf Find.hashOf Find.markOf Find.beginsOf Find.findOf Script.readingFrom Script.scriptFrom Script.scriptOf start Look.begins Look.same Look.lookupIn Look.lookupOf Reserved.Stands Reserved.firstOf Reserved.isA Reserved.isB Reserved.answerOf Reserved.answered Reserved.reservedOf Reserved.eitherBook Reserved.heldOf Reserved.partOf Reserved.placeOf Reserved.foundPart Reserved.foundPlace Table.starts Table.gap Table.firstPlace Table.nextPlace Table.textsOf Table.textStart Table.tabulated Table.table Table.placeOf Keywords.keywords Keywords.entryAt Book.few Book.runsOn Book.ascii Book.sized Book.flagged Book.fit Book.allFit Book.belowNext Book.rising Book.good Book.checkOf Contents.u16At Contents.count Contents.startAt Contents.sizeAt Contents.wordAt Contents.wordsFrom Contents.words Contents.enough Contents.rowsOf Contents.rowOf Order.compared Order.below Order.same
 worked = record {
   listing = refl;
   nothing = refl;

@@ -1,1 +1,5 @@
 pub mod Examples
+pub mod Onward
+pub mod Moves
+pub mod Ahead
+pub mod Fair

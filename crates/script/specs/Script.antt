@@ -7,11 +7,11 @@ use Rattle.fault.specs.Faults.{stillOpen}
 use Rattle.reading.specs.Reading.{Reading, halts}
 use Rattle.script.specs.declared.State.{State}
 use Rattle.script.specs.States.{begun}
-use Rattle.script.specs.Steps.{Step, on, over, stepOf}
+use Rattle.script.specs.Steps.{Step, on, over, noted, stepOf}
 
 -- what a step leads to
 abbrev pub onStep : Step → (State → Reading) → Reading
-onStep (on note s) next = note (next s)
+onStep (on n s) next = noted n (next s)
 onStep (over r) next = r
 
 -- the reading, step by step, of a script of which k bytes are still to pass before the next one

@@ -1,15 +1,17 @@
 -- Where a run stands, and what a token makes of it: document 01, "counting open braces (`{` and `#{`) at each of sixteen levels, until the matching `}`".
-use Prim.Native.Nat.{ℕ, _+_, _-_}
+use Prim.Native.Nat.{ℕ, _+_, _-_, _≤_, _<_}
 use mathlib.Core.Bool.{Bool, true, false}
 use mathlib.Core.List.{List}
 use lib.Dec.{eqb, leb}
 use lib.ListN.{replicate, getD, set}
 use Rattle.basis.specs.Pick.{pick, either}
 use Rattle.position.specs.Place as Place
-use Rattle.token.specs.Tokens as Token
+use Rattle.token.specs.Tokens as Tokens
 use Rattle.chars.specs.Cursors.{cursor}
 use Rattle.chars.specs.declared.cursor.Cursor.{Cursor}
 use Rattle.script.specs.declared.State.{State}
+use Rattle.script.specs.declared.Passed.{Passed}
+use Rattle.script.specs.declared.Passed.the-variants.{Plain, Piece, Token}
 
 abbrev pub state : Cursor → ℕ → List ℕ → Bool → State
 state c n bs d = record { cursor = c; level = n; braces = bs; due = d }
@@ -48,4 +50,22 @@ closed c s = pick (eqb (s .level) 0) (movedTo c s) (pick (leb (count s) 1) (resu
 
 -- behind a symbol
 unfoldable pub behind : ℕ → Cursor → State → State
-behind t c s = pick (either (eqb t Token.LeftBrace) (eqb t Token.MapStart)) (opened c s) (pick (eqb t Token.RightBrace) (closed c s) (movedTo c s))
+behind t c s = pick (either (eqb t Tokens.LeftBrace) (eqb t Tokens.MapStart)) (opened c s) (pick (eqb t Tokens.RightBrace) (closed c s) (movedTo c s))
+
+-- where a run stands behind what it has passed
+unfoldable pub behindOf : Passed → Cursor → State → State
+behindOf Plain c s = movedTo c s
+behindOf Piece c s = interpolated c s
+behindOf (Token t) c s = behind t c s
+
+-- sixteen interpolations at most are open, each with no more braces than bytes were passed
+pub record Fine (s : State) : Type 0 where
+  pub deep : s .level ≤ 16
+  pub few : (i : ℕ) → getD (s .braces) i 0 ≤ s .cursor .at
+  pub short : s .cursor .at ≤ 16777216
+
+-- an interpolation more is opened only where there are not sixteen
+abbrev pub Fits : Passed → State → Type 0
+Fits Plain s = Unit {0}
+Fits Piece s = s .level < 16
+Fits (Token t) s = Unit {0}

@@ -1,14 +1,16 @@
 -- One step of a run by the unlimited rules: document 01, "Run".
 use Prim.Native.Nat.{ℕ, _-_}
 use mathlib.Core.Bool.{Bool}
-use mathlib.Core.List.{List}
+use mathlib.Core.List.{List, []}
 use lib.Dec.{eqb, leb}
 use lib.ListN.{length}
 use Rattle.basis.specs.Pick.{pick, isnt}
+use Rattle.position.specs.declared.Position.{Position}
 use Rattle.position.specs.Place.{advanced}
 use Rattle.utf8.specs.Table.{chars}
 use Rattle.white.specs.White.{isWhite}
 use Rattle.chars.specs.declared.cursor.Cursor.{Cursor}
+use Rattle.fault.specs.declared.Part.{Part}
 use Rattle.fault.specs.declared.Fault.{Fault}
 use Rattle.fault.specs.Faults.{part, stillOpen, notOneCharacter, tooDeep}
 use Rattle.literal.specs.declared.End.{End}
@@ -25,9 +27,26 @@ use Rattle.reading.specs.Reading as Reading
 use Rattle.script.specs.declared.State.{State}
 use Rattle.script.specs.States.{movedTo, interpolated, behind}
 
--- one step: on to a state, with what the step puts in front of the reading of the rest; or the reading is over
+-- what a step puts in front of the reading of the rest: nothing; a token, of a kind, at a place, which is a part of the script; or a literal, of a kind, from a cursor on
+pub data Note : Type 0 where
+  nothing : Note
+  token : ℕ → Position → Part → Note
+  literal : ℕ → Cursor → Trace → Note
+
+abbrev pub noted : Note → Reading → Reading
+noted nothing r = r
+noted (token k p q) r = lists k p q r
+noted (literal k from t) r = reads k from t r
+
+-- the literal bytes of it
+abbrev pub packedOf : Note → List ℕ
+packedOf nothing = []
+packedOf (token k p q) = []
+packedOf (literal k from t) = bytes t
+
+-- one step: on to a state, with a note; or the reading is over
 pub data Step : Type 0 where
-  on : (Reading → Reading) → State → Step
+  on : Note → State → Step
   over : Reading → Step
 
 -- the terminator of a kind of string literal
@@ -42,12 +61,12 @@ traceOf t k from = pick (eqb k Find.raw) (readOf asSource t from 0) (readingOf i
 abbrev pub interpolatedText : ℕ
 interpolatedText = 6
 
--- a fault of a literal that its scan accepts, or 0: 11 where it is still open, 12 where a `'` literal is not one character, 13 where `${` ends it and sixteen interpolations are open
+-- a fault of a literal that its scan accepts, or 0: 11 where it is still open, 13 where `${` ends it and sixteen interpolations are open, 12 where a `'` literal is not one character
 unfoldable pub wrongOf : ℕ → ℕ → End → List ℕ → ℕ
 wrongOf k level e body =
     pick (isnt (eqb (e .on_record .times) 0)) 11
-    (pick (eqb k Find.char) (pick (eqb (length (chars body)) 1) 0 12)
-    (pick (e .interpolated) (pick (leb 16 level) 13 0) 0))
+    (pick (e .interpolated) (pick (leb 16 level) 13 0)
+    (pick (eqb k Find.char) (pick (eqb (length (chars body)) 1) 0 12) 0))
 
 -- the fault by that number: 11 is at the cursor, the others at the literal's start
 unfoldable pub faultOf : ℕ → Cursor → End → Fault
@@ -55,7 +74,7 @@ faultOf n from e = pick (eqb n 11) (stillOpen (e .cursor .place)) (record { numb
 
 -- a literal that is listed: a piece of text that `${` ends opens an interpolation
 unfoldable pub listedOf : ℕ → Cursor → Trace → End → State → Step
-listedOf k from t e s = pick (e .interpolated) (on (reads interpolatedText from t) (interpolated (e .cursor) s)) (on (reads k from t) (movedTo (e .cursor) s))
+listedOf k from t e s = pick (e .interpolated) (on (literal interpolatedText from t) (interpolated (e .cursor) s)) (on (literal k from t) (movedTo (e .cursor) s))
 
 -- what comes of a literal's reading
 abbrev pub onEnd : ℕ → Cursor → Trace → State → Outcome → Step
@@ -70,10 +89,14 @@ literalOf t k from s = onEnd k from (traceOf t k from) s (final (traceOf t k fro
 unfoldable pub endOf : State → Step
 endOf s = over (pick (eqb (s .level) 0) (Reading.over (s .cursor .place)) (halts (stillOpen (s .cursor .place))))
 
+-- a token that is a part of the script, up to a cursor
+abbrev pub partOf : ℕ → ℕ → Cursor → State → Step
+partOf k w c s = on (token k (advanced (s .cursor .place)) (part (s .cursor .at) (c .at - s .cursor .at))) (behind w c s)
+
 -- what comes of what begins here
 abbrev pub onFound : List ℕ → State → Found → Step
-onFound t s (found.White c) = on (λ r. r) (movedTo c s)
-onFound t s (found.Part k token c) = on (lists k (advanced (s .cursor .place)) (part (s .cursor .at) (c .at - s .cursor .at))) (behind token c s)
+onFound t s (found.White c) = on nothing (movedTo c s)
+onFound t s (found.Part k w c) = partOf k w c s
 onFound t s (found.Literal k from) = literalOf t k from s
 onFound t s (found.Wrong f) = over (halts f)
 onFound t s found.End = endOf s

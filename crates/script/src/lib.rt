@@ -1,5 +1,9 @@
 // Where a run over a script stands: the Rust's TokenizeState, by value. specs/ has the reading of a script by the unlimited rules.
+ghost use mathlib.Core.Path.{_≡_};
+ghost use Prim.Native.Nat.{_≤_, _<_};
+ghost use Rattle.script.specs.States.{movedTo, interpolated, counted, opened, closed, Fine, Fits, behindOf};
 use chars::cursor::Cursor;
+use token::tokens;
 
 pub struct State {
     // Behind the last character taken.
@@ -10,4 +14,115 @@ pub struct State {
     pub braces: [usize; 16],
     // Whether a text goes on here: its interpolation has just been closed.
     pub due: bool,
+}
+
+// What a run has passed: something that opens and closes nothing, a piece of text that `${` ended, or the Rust's token.
+pub enum Passed {
+    Plain,
+    Piece,
+    Token(u8),
+}
+
+fn moved_to(to: Cursor, s: State) -> State
+    ensures { λ r. ⌜ r ≡ movedTo to s ⌝ }
+{
+    let braces = s.braces;
+    State {
+        cursor: to,
+        level: s.level,
+        braces,
+        due: false,
+    }
+}
+
+// One interpolation more, with no brace open yet.
+fn interpolated(to: Cursor, s: State) -> State
+    requires { ⌜ s .level < 16 ⌝ }
+    ensures { λ r. ⌜ r ≡ interpolated to s ⌝ }
+{
+    let level = s.level;
+    let mut braces = s.braces;
+    braces[level] = 0;
+    State {
+        cursor: to,
+        level: level + 1,
+        braces,
+        due: false,
+    }
+}
+
+// Behind an opening brace.
+fn opened(to: Cursor, s: State) -> State
+    requires { ⌜ Fine s ⌝ }
+    ensures { λ r. ⌜ r ≡ opened to s ⌝ }
+{
+    let level = s.level;
+    if level == 0 {
+        return moved_to(to, s);
+    }
+    let top = level - 1;
+    let mut braces = s.braces;
+    let count = braces[top] + 1;
+    braces[top] = count;
+    State {
+        cursor: to,
+        level,
+        braces,
+        due: false,
+    }
+}
+
+// Behind a closing brace: the last one of an interpolation closes it, and its text goes on.
+fn closed(to: Cursor, s: State) -> State
+    requires { ⌜ Fine s ⌝ }
+    ensures { λ r. ⌜ r ≡ closed to s ⌝ }
+{
+    let level = s.level;
+    if level == 0 {
+        return moved_to(to, s);
+    }
+    let top = level - 1;
+    let mut braces = s.braces;
+    let count = braces[top];
+    if count <= 1 {
+        braces[top] = 0;
+        return State {
+            cursor: to,
+            level: top,
+            braces,
+            due: true,
+        };
+    }
+    braces[top] = count - 1;
+    State {
+        cursor: to,
+        level,
+        braces,
+        due: false,
+    }
+}
+
+impl State {
+    // Inner: where a run stands behind what it has passed.
+    pub fn behind(self, what: Passed, to: Cursor) -> State
+        requires { ⌜ Fine self × Fits what self ⌝ }
+        ensures { λ r. ⌜ r ≡ behindOf what to self ⌝ }
+    {
+        match what {
+            Passed::Plain => moved_to(to, self),
+            Passed::Piece => interpolated(to, self),
+            Passed::Token(token) => {
+                if token == tokens::LEFT_BRACE {
+                    return opened(to, self);
+                }
+                if token == tokens::MAP_START {
+                    return opened(to, self);
+                }
+                if token == tokens::RIGHT_BRACE {
+                    return closed(to, self);
+                }
+                moved_to(to, self)
+            }
+        }
+    }
 }

@@ -55,7 +55,7 @@ trace-sevens t at p q =
     let h = argument-small t at p q in
     pick-cases Sevens (eqb (argumentOf t at p q) 0) _ _
     (λ _. reading-sevens isWhite t q (cursor at p))
-    (λ _. ((λ e. omega arith), (λ e. omega arith)))
+    (λ _. (λ e. omega arith, λ e. omega arith, λ e. omega arith))
 
 -- demand 3 of the scan
 module _ (t : List ℕ) (at : ℕ) (p : Position) (q : ℕ) where

@@ -45,7 +45,7 @@ Opens t a (Open here) = Reached t a (here .at)
 
 malformed-fair : (q from : ℕ) (here : Cursor) → Fair (Bad (malformedAt q from here))
 unfolding malformedAt
-malformed-fair q from here = ((λ e. omega arith), (λ e. omega arith))
+malformed-fair q from here = (λ e. omega arith, λ e. omega arith, λ e. omega arith)
 
 module _ (t : List ℕ) where
   close-opens : (q c : ℕ) (here : Cursor) (e : Pending) → Opens t (here .at) (closeOf t q c here e)

@@ -1,2 +1,4 @@
 pub mod Readings
 pub mod Limited
+pub mod Lands
+pub mod Bodies

@@ -1,4 +1,4 @@
--- Demand 3 for the reading of a string literal: its limits are 7, and its own refusals are not 7 or 9. Assumes nothing.
+-- Demand 3 for the reading of a string literal: its limits are 7, and its own refusals are not 7, 9 or 10. Assumes nothing.
 use Prim.Native.Nat.{ℕ, zero, suc, _+_, _-_}
 use mathlib.Core.Bool.{Bool}
 use mathlib.Core.List.{List, [], _∷_}

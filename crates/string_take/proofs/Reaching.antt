@@ -8,6 +8,7 @@ use Rattle.basis.specs.Pick.{pick, both, either, isnt}
 use Rattle.basis.proofs.Cases.{pick-cases}
 use Rattle.position.specs.declared.Position.{Position}
 use Rattle.position.specs.Place.{advanced}
+use Rattle.fault.specs.Faults.{Own}
 use Rattle.chars.specs.Cursors.{cursor, getNextOf, eatNextOf}
 use Rattle.chars.specs.declared.cursor.Cursor.{Cursor}
 use Rattle.chars.specs.declared.cursor.Taken.{Taken}
@@ -23,10 +24,10 @@ use Rattle.string_take.specs.declared.Last.the-variants.{Good, Bad}
 use Rattle.string_take.specs.declared.Got.{Got}
 use Rattle.string_take.specs.declared.Got.the-variants as got
 
--- neither 7 nor 9
+-- no limit and no room causes it
 abbrev pub Fair : Last → Type 0
 Fair (Good e) = Unit {0}
-Fair (Bad f) = (f .fault .number ≡ 7 → ⊥) × (f .fault .number ≡ 9 → ⊥)
+Fair (Bad f) = Own (f .fault)
 
 -- a character taken from an offset
 abbrev pub Gets : List ℕ → ℕ → Got → Type 0
@@ -35,7 +36,7 @@ Gets t a (got.Over last) = Fair last
 
 pub unterminated-fair : (start : Position) (here : Cursor) → Fair (Bad (unterminatedAt start here))
 unfolding unterminatedAt
-unterminated-fair start here = ((λ e. omega arith), (λ e. omega arith))
+unterminated-fair start here = (λ e. omega arith, λ e. omega arith, λ e. omega arith)
 
 pub end-fair : (q : ℕ) (start : Position) (at : ℕ) (s : State) → Fair (endOf q start at s)
 unfolding endOf

@@ -8,14 +8,14 @@ use lib.ListN.{length}
 use Rattle.chars.specs.Cursors.{getNextOf}
 use Rattle.chars.specs.declared.cursor.Cursor.{Cursor}
 use Rattle.chars.specs.declared.cursor.Taken.the-variants as taken
-use Rattle.identifier.specs.Identifiers.{endFrom, answered, spanned, identifyOf, classOf, between}
+use Rattle.identifier.specs.Identifiers.{answered, spanned, identifyOf, classOf, between}
 use Rattle.identifier.specs.declared.Class.{Class}
 use Rattle.identifier.proofs.Answers.{nothing-there, begins-here, first-within}
 use Rattle.identifier.proofs.identify.Statement.{statement}
 use Rattle.identifier.proofs.identify.Tie as tie
 
 -- the first character, and the end
-module _ (k : tie.After-end-from) where
+module _ (k : tie.After-end-of) where
   abbrev get : tie.After-get-next
   get = k .before .before .before .before
 
@@ -38,17 +38,17 @@ module _ (k : tie.After-end-from) where
   got = sym (get .get-next .ensures) ∙ k .before .before .first .given .1
 
   abbrev end : Cursor
-  end = k .end-from .result
+  end = k .end-of .result
 
   room : (start .at ≤ end .at) × (end .at ≤ length text)
   room =
       let f = first-within text book start got in
-      (omega (arith, f .0, k .end-from .ensures .1 .0), k .end-from .ensures .1 .1 (f .1))
+      (omega (arith, f .0, k .end-of .ensures .1 .0), k .end-of .ensures .1 .1 (f .1))
 
   -- the answer, by the class of what stands between
   whole : identifyOf text book start ≡ answered start end (classOf book (between text start end))
   unfolding spanned
-  whole = begins-here text book start got ∙ ap (spanned text book start) (sym (k .end-from .ensures .0))
+  whole = begins-here text book start got ∙ ap (spanned text book start) (sym (k .end-of .ensures .0))
 
 returns-2 : tie.Need-returns-2
 unfolding answered

@@ -9,17 +9,17 @@ use Rattle.chars.specs.Cursors.{eatNextOf}
 use Rattle.chars.specs.declared.cursor.Cursor.{Cursor}
 use Rattle.chars.specs.declared.cursor.Taken.the-variants as taken
 use Rattle.chars.proofs.Cursors.{ate-took, further}
-use Rattle.identifier.specs.Identifiers.{endFrom}
-use Rattle.identifier.proofs.Ends.{ended, passed, stopped}
-use Rattle.identifier.proofs.end_from.Statement.{statement}
-use Rattle.identifier.proofs.end_from.Tie as tie
+use Rattle.stretch.specs.Stretch.{endOf}
+use Rattle.stretch.proofs.Ends.{ended, passed, stopped}
+use Rattle.stretch.proofs.end_of.Statement.{statement}
+use Rattle.stretch.proofs.end_of.Tie as tie
 
 abbrev Inv-loop : tie.InvT-loop
-Inv-loop text cursor₀ cursor =
-    (endFrom text cursor₀ ≡ endFrom text cursor) × (cursor₀ .at ≤ cursor .at) × (cursor₀ .at ≤ length text → cursor .at ≤ length text)
+Inv-loop what text cursor₀ cursor =
+    (endOf what text cursor₀ ≡ endOf what text cursor) × (cursor₀ .at ≤ cursor .at) × (cursor₀ .at ≤ length text → cursor .at ≤ length text)
 
 abbrev μ-loop : tie.MeasureT-loop
-μ-loop text cursor₀ cursor = length text - cursor .at
+μ-loop what text cursor₀ cursor = length text - cursor .at
 
 -- the character that was taken
 module _ (k : tie.After-known-told Inv-loop μ-loop) where
@@ -44,12 +44,12 @@ module _ (k : tie.After-known-told Inv-loop μ-loop) where
 returns : tie.Need-returns Inv-loop μ-loop
 returns c =
     let eat = c .before .before in
-    (sym (eat .before .loop .inv .0 ∙ ended _ _ (sym (eat .eat-next-and-advance .ensures) ∙ c .enum-told .given .1)), (eat .before .loop .inv .1, eat .before .loop .inv .2))
+    (sym (eat .before .loop .inv .0 ∙ ended _ _ _ (sym (eat .eat-next-and-advance .ensures) ∙ c .enum-told .given .1)), (eat .before .loop .inv .1, eat .before .loop .inv .2))
 
 loop-again : tie.Need-loop-again Inv-loop μ-loop
 loop-again c =
     let k = c .before .before in (
-      top k .loop .inv .0 ∙ passed _ _ (took k) (sym (c .before .is-id-continue .ensures) ∙ c .if1 .taken),
+      top k .loop .inv .0 ∙ passed _ _ _ (took k) (sym (c .before .goes-on .ensures) ∙ c .if1 .taken),
       omega (arith, goes k, top k .loop .inv .1),
       λ h. goes k .1,
     )
@@ -57,12 +57,12 @@ loop-again c =
 returns-2 : tie.Need-returns-2 Inv-loop μ-loop
 returns-2 c =
     let k = c .before .before in (
-      sym (top k .loop .inv .0 ∙ stopped _ _ (took k) (sym (c .before .is-id-continue .ensures) ∙ c .if1 .left)),
+      sym (top k .loop .inv .0 ∙ stopped _ _ _ (took k) (sym (c .before .goes-on .ensures) ∙ c .if1 .left)),
       (top k .loop .inv .1, top k .loop .inv .2),
     )
 
-pub end-from-spec : {M : Type 1} → statement M
-end-from-spec =
+pub end-of-spec : {M : Type 1} → statement M
+end-of-spec =
     tie.close
     (tie.spec
     Inv-loop

@@ -1,0 +1,127 @@
+-- What is found ends further on, within the script; and no limit and no room makes a script wrong. Assumes nothing.
+use Prim.Native.Nat.{ℕ, _+_, _-_, _≤_, _<_}
+use Prim.Native.Char.{code}
+use native.Mathlib.Omega.{arith}
+use mathlib.Core.Bool.{Bool, true, false}
+use mathlib.Core.List.{List}
+use mathlib.Core.Path.{_≡_, refl, sym, _∙_}
+use lib.Dec.{eqb}
+use lib.ListN.{length}
+use borrow.Author.Tests.{eqb-true}
+use Rattle.basis.specs.Pick.{pick, either}
+use Rattle.basis.proofs.Cases.{pick-cases}
+use Rattle.position.specs.declared.Position.{Position}
+use Rattle.position.specs.Place.{advanced, lined}
+use Rattle.utf8.specs.Table.{lookAt}
+use Rattle.utf8.specs.declared.Look.{Look}
+use Rattle.utf8.specs.declared.Look.the-variants as look
+use Rattle.utf8.proofs.Laws.{at-width}
+use Rattle.classes.specs.Class.{isNumericDigit, isIdFirstAlphabetic}
+use Rattle.white.specs.White.{isWhite}
+use Rattle.chars.specs.Cursors.{cursor}
+use Rattle.chars.specs.declared.cursor.Cursor.{Cursor}
+use Rattle.fault.specs.Faults.{Own}
+use Rattle.stretch.specs.Stretch.{endOf}
+use Rattle.stretch.specs.declared.Stretch.the-variants as Stretch
+use Rattle.stretch.proofs.Ends.{end-reached}
+use Rattle.identifier.specs.Identifiers.{identifyOf}
+use Rattle.identifier.specs.declared.Identified.{Identified}
+use Rattle.identifier.specs.declared.Identified.the-variants as identified
+use Rattle.identifier.proofs.Ends as Word
+use Rattle.identifier.proofs.Ends.{identified-ahead}
+use Rattle.symbols.specs.Symbols.{longestSymbolOf}
+use Rattle.symbols.specs.declared.Longest.{Longest}
+use Rattle.symbols.specs.declared.Longest.the-variants.{Symbol, Nothing}
+use Rattle.symbols.proofs.Longer.{offset-within}
+use Rattle.comment.specs.Block.{commentOf}
+use Rattle.comment.proofs.Ends.{comment-reached}
+use Rattle.find.specs.Find.{whiteOf, wordOf, numberOf, symbolOf, lineOf, blockOf, codeOf, slashOf, hashOf, markOf, beginsOf, onLook, findOf}
+use Rattle.find.specs.declared.Found.{Found}
+use Rattle.find.specs.declared.Found.the-variants.{White, Part, Literal, Wrong, End}
+use Rattle.find.proofs.Begins.{code-within}
+
+-- behind an offset, within the script
+abbrev pub Further : List ℕ → ℕ → Cursor → Type 0
+Further t at c = (at < c .at) × (c .at ≤ length t)
+
+abbrev pub Ahead : List ℕ → ℕ → Found → Type 0
+Ahead t at (White c) = Further t at c
+Ahead t at (Part k w c) = Further t at c
+Ahead t at (Literal k c) = Further t at c
+Ahead t at (Wrong f) = Own f
+Ahead t at End = Unit {0}
+
+symbol-ahead : (t : List ℕ) (at w : ℕ) (p : Position) → Ahead t at (symbolOf at w p (longestSymbolOf t at))
+unfolding symbolOf
+symbol-ahead t at w p = by (longestSymbolOf t at) refl
+  where
+    by : (x : Longest) → longestSymbolOf t at ≡ x → Ahead t at (symbolOf at w p x)
+    by (Symbol k n) q = let r = offset-within t at k n q in (omega (arith, r .0), r .1)
+    by Nothing q = (λ z. omega arith, λ z. omega arith, λ z. omega arith)
+
+wording : (t book : List ℕ) (at : ℕ) (p : Position) (x : Identified) → Word.Ahead t book (cursor at p) x → Ahead t at (wordOf x)
+unfolding wordOf
+wording t book at p (identified.Found w) h = h
+wording t book at p (identified.Refused f e) h = h
+
+module _ (t book : List ℕ) (at c w : ℕ) (p : Position) (e : lookAt t at ≡ look.Char c w) where
+  wide : (1 ≤ w) × (at + w ≤ length t) × (w ≤ 4)
+  wide = at-width t at e
+
+  white-ahead : Ahead t at (whiteOf c (cursor (at + w) p))
+  unfolding whiteOf
+  white-ahead = pick-cases (λ (x : Cursor). Further t at x) (eqb c 0x0A) _ _ (λ y. (omega (arith, wide), wide .1)) (λ n. (omega (arith, wide), wide .1))
+
+  -- a stretch behind the first character
+  stretch-ahead : Further t at (endOf Stretch.Word t (cursor (at + w) p))
+  stretch-ahead =
+      let r = end-reached Stretch.Word t (cursor (at + w) p) in
+      (omega (arith, wide, r .0), r .1 (wide .1))
+
+  word-ahead : Ahead t at (wordOf (identifyOf t book (cursor at p)))
+  word-ahead = wording t book at p (identifyOf t book (cursor at p)) (identified-ahead t book (cursor at p))
+
+  -- one character behind `/`
+  pair-ahead : (d : ℕ) → codeOf (lookAt t (at + 1)) ≡ d → d < 0x110000 → at + 2 ≤ length t
+  pair-ahead d q h = omega (arith, code-within t (at + 1) d q h)
+
+  slash-ahead : Ahead t at (slashOf t at p (codeOf (lookAt t (at + 1))))
+  unfolding slashOf lineOf blockOf
+  slash-ahead =
+      let d = codeOf (lookAt t (at + 1)) in
+      let from = cursor (at + 2) (advanced p) in
+      pick-cases (Ahead t at) (eqb d (code "/")) _ _
+      (λ y. let r = end-reached Stretch.Line t from in (omega (arith, r .0), r .1 (pair-ahead 0x2F (eqb-true d 0x2F y) (omega arith))))
+      (λ m. pick-cases (Ahead t at) (eqb d (code "*")) _ _
+      (λ y. let r = comment-reached t from 1 in pick-cases (Ahead t at) (eqb (commentOf t from 1 .level) 0) _ _ (λ z. (omega (arith, r .forward), r .within (pair-ahead 0x2A (eqb-true d 0x2A y) (omega arith)))) (λ z. (λ q. omega arith, λ q. omega arith, λ q. omega arith)))
+      (λ n. symbol-ahead t at 1 p))
+
+  hash-ahead : Ahead t at (hashOf t at p (codeOf (lookAt t (at + 1))))
+  unfolding hashOf
+  hash-ahead = pick-cases (Ahead t at) (eqb (codeOf (lookAt t (at + 1))) (code "{")) _ _ (λ y. symbol-ahead t at 1 p) (λ n. (omega arith, omega (arith, wide)))
+
+  mark-ahead : Ahead t at (markOf t at p c w)
+  unfolding markOf
+  mark-ahead =
+      pick-cases (Ahead t at) (eqb c (code "\"")) _ _ (λ y. (omega (arith, wide), wide .1))
+      (λ n1. pick-cases (Ahead t at) (eqb c (code "'")) _ _ (λ y. (omega (arith, wide), wide .1))
+      (λ n2. pick-cases (Ahead t at) (eqb c (code "`")) _ _ (λ y. (omega (arith, wide), wide .1))
+      (λ n3. pick-cases (Ahead t at) (eqb c (code "#")) _ _ (λ y. hash-ahead)
+      (λ n4. pick-cases (Ahead t at) (eqb c (code "/")) _ _ (λ y. slash-ahead)
+      (λ n5. symbol-ahead t at w p)))))
+
+  begins-ahead : Ahead t at (beginsOf t book at p c w)
+  unfolding beginsOf numberOf
+  begins-ahead =
+      pick-cases (Ahead t at) (isWhite c) _ _ (λ y. white-ahead)
+      (λ n1. pick-cases (Ahead t at) (either (isIdFirstAlphabetic c) (eqb c (code "_"))) _ _ (λ y. word-ahead)
+      (λ n2. pick-cases (Ahead t at) (isNumericDigit c) _ _ (λ y. stretch-ahead)
+      (λ n3. mark-ahead)))
+
+pub find-ahead : (t book : List ℕ) (s : Cursor) → Ahead t (s .at) (findOf t book s)
+unfolding findOf
+find-ahead t book s = by (lookAt t (s .at)) refl
+  where
+    by : (x : Look) → lookAt t (s .at) ≡ x → Ahead t (s .at) (onLook t book s x)
+    by (look.Char c w) e = begins-ahead t book (s .at) c w (advanced (s .place)) e
+    by look.End e = tt

@@ -1,0 +1,14 @@
+-- How entries are laid out: document 01, "Each entry is five u32: kind, line, position, offset, length".
+use Prim.Native.Nat.{ℕ}
+use mathlib.Core.List.{List, [], _∷_, _++_}
+use Rattle.position.specs.Place.{lineNumber, columnNumber}
+use Rattle.reading.specs.declared.Entry.{Entry}
+
+-- the numbers of an entry
+unfoldable pub numbersOf : Entry → List ℕ
+numbersOf e = e .kind ∷ lineNumber (e .place) ∷ columnNumber (e .place) ∷ e .at ∷ e .len ∷ []
+
+-- some entries, one after the other, by how one of them is laid out
+unfoldable pub laidOut : (Entry → List ℕ) → List Entry → List ℕ
+laidOut f [] = []
+laidOut f (e ∷ es) = f e ++ laidOut f es
