@@ -1,0 +1,3 @@
+pub mod Finishes
+pub mod Runs
+pub mod Limits

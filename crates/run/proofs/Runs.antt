@@ -1,0 +1,152 @@
+-- What a run has left when it is over, in the words of its contract. Assumes nothing.
+use Prim.Native.Nat.{ℕ, zero, suc, _+_, _*_, _/_, _≤_, _<_}
+use native.Mathlib.Omega.{arith}
+use native.Mathlib.Nat.{zero-add}
+use mathlib.Core.Bool.{Bool, true, false}
+use mathlib.Core.List.{List, [], _∷_}
+use mathlib.Core.Path.{_≡_, refl, sym, ap, _∙_}
+use lib.Dec.{eqb}
+use lib.ListN.{length, length-append, getD, replicate, set, length-set}
+use lib.Seq.{sets}
+use borrow.Author.Tests.{eq-eqb, ne-eqb}
+use Rattle.basis.specs.Pick.{pick}
+use Rattle.basis.specs.Store.{over}
+use Rattle.basis.proofs.Stores.{sets-cons, sets-front}
+use Rattle.position.specs.Place.{start, lineNumber, columnNumber}
+use Rattle.fault.specs.Faults.{fault}
+use Rattle.run_door.specs.Door.{refusesOf}
+use Rattle.reading.specs.Reading.{Left, ended}
+use Rattle.reading.specs.CutRun.{Bounds, cutRun}
+use Rattle.reading.specs.Entries.{numbersOf, laidOut}
+use Rattle.reading.specs.declared.Entry.{Entry}
+use Rattle.reading.specs.declared.Ending.{Ending}
+use Rattle.reading.specs.declared.Ending.the-variants.{Stop}
+use Rattle.reading.proofs.Fits.{Fits, cut-fits}
+use Rattle.script.specs.Script.{scriptOf, scriptFrom}
+use Rattle.script.specs.States.{begun, Fine}
+use Rattle.run_turn.proofs.Makes.{Stands, left}
+use Rattle.run.specs.Run.{readingOf, boundsOf, runOf, ranOf, literalsOf, entriesOf}
+use Rattle.run.specs.declared.Ran.{Ran}
+use Rattle.run.proofs.Finishes.{Finished, finish, Running}
+
+-- ---- five numbers for each entry
+pub five : (e : Entry) → length (numbersOf e) ≡ 5
+unfolding numbersOf
+five e = refl
+
+laid-length : (es : List Entry) → length (laidOut numbersOf es) ≡ 5 * length es
+unfolding laidOut
+laid-length [] = refl
+laid-length (e ∷ es) = let h = laid-length es in rw (length-append (numbersOf e) (laidOut numbersOf es), five e) (omega (arith, h))
+
+-- five stores, one behind the other
+pub five-stored : (es : List ℕ) (i : ℕ) (e : Entry)
+    → set (set (set (set (set es i (e .kind)) (i + 1) (lineNumber (e .place))) (i + 2) (columnNumber (e .place))) (i + 3) (e .at)) (i + 4) (e .len) ≡ sets es i (numbersOf e)
+unfolding numbersOf
+five-stored es i e =
+    let two : i + 1 ≡ suc i = omega arith in
+    let three : i + 2 ≡ suc (suc i) = omega arith in
+    let four : i + 3 ≡ suc (suc (suc i)) = omega arith in
+    let five : i + 4 ≡ suc (suc (suc (suc i))) = omega arith in
+    rw (two, three, four, five)
+
+-- and each of them is in the memory
+module _ (es : List ℕ) (i : ℕ) (h : i + 5 ≤ length es) (a b c d : ℕ) where
+  pub second-room : i + 1 < length (set es i a)
+  second-room = rw (length-set es i a) (omega arith)
+
+  pub third-room : i + 2 < length (set (set es i a) (i + 1) b)
+  third-room = rw (length-set (set es i a) (i + 1) b, length-set es i a) (omega arith)
+
+  pub fourth-room : i + 3 < length (set (set (set es i a) (i + 1) b) (i + 2) c)
+  fourth-room = rw (length-set (set (set es i a) (i + 1) b) (i + 2) c, length-set (set es i a) (i + 1) b, length-set es i a) (omega arith)
+
+  pub fifth-room : i + 4 < length (set (set (set (set es i a) (i + 1) b) (i + 2) c) (i + 3) d)
+  fifth-room =
+      rw (length-set (set (set (set es i a) (i + 1) b) (i + 2) c) (i + 3) d, length-set (set (set es i a) (i + 1) b) (i + 2) c, length-set (set es i a) (i + 1) b, length-set es i a) (omega arith)
+
+-- the next entry stands behind it
+pub entry-next : (n : ℕ) (e : Entry) → 5 * n + length (numbersOf e) ≡ 5 * (n + 1)
+entry-next n e = rw (five e) (omega arith)
+
+-- as many as the bounds allow have room
+pub entries-fit : (es : List Entry) (m : ℕ) → length es ≤ m / 5 → length (laidOut numbersOf es) ≤ m
+entries-fit es m h = rw (laid-length es) (omega arith)
+
+-- there is room for an entry that the bounds allow
+pub entry-room : (n m : ℕ) → n < m / 5 → 5 * n + 5 ≤ m
+entry-room n m h = omega arith
+
+-- ---- before the first turn
+zeros : (n i : ℕ) → _≡_ {A = ℕ} (getD (replicate n 0) i 0) 0
+zeros zero i = refl
+zeros (suc n) zero = refl
+zeros (suc n) (suc i) = zeros n i
+
+module _ (t : List ℕ) (b : Bounds) where
+  pub begun-stands : Stands t b begun 0 0
+  unfolding begun
+  begun-stands = record { fine = record { deep = omega arith; few = λ i. rw (zeros 16 i) (omega arith); short = omega arith }; within = omega arith; room = omega arith; few = omega arith; short = omega arith; free = omega arith }
+
+-- ---- for any way to lay an entry out
+module _ (index : ℕ → ℕ) (laid : Entry → List ℕ) (t book : List ℕ) (b : Bounds) (es ls : List ℕ) where
+  pub run-begun : length ls ≡ b .literals → Running index laid t book b es ls begun begun 0 0 es ls
+  run-begun h = record { stands = begun-stands t b; room = h; entries = refl; same = refl }
+
+  -- what is left of the whole script
+  abbrev whole : Left
+  whole = cutRun b 0 0 (scriptOf t book)
+
+  module _ (first : index 0 ≡ 0) (lent : length ls ≡ b .literals) (rooms : length (whole .listed) ≤ b .entries → length (laidOut laid (whole .listed)) ≤ length es) where
+    pub finish-is :
+        finish index laid es ls 0 0 (left t book b begun 0 0)
+        ≡ record {
+          ending = whole .ending;
+          listed = length (whole .listed);
+          used = length (whole .packed);
+          entries = over (laidOut laid (whole .listed)) es;
+          literals = over (whole .packed) ls;
+        }
+    unfolding finish scriptOf
+    finish-is =
+        let f = cut-fits b 0 0 (scriptOf t book) (omega arith) (omega arith) in
+        rw (
+          first,
+          zero-add (length (whole .listed)),
+          zero-add (length (whole .packed)),
+          sets-front es (laidOut laid (whole .listed)) (rooms (omega (arith, f .entries))),
+          sets-front ls (whole .packed) (omega (arith, f .literals)),
+        )
+
+    module _ {e : Ending} {n used : ℕ} {es′ ls′ : List ℕ}
+        (done : record { ending = e; listed = n; used = used; entries = es′; literals = ls′ } ≡ finish index laid es ls 0 0 (left t book b begun 0 0)) where
+      pub done-answer : record { ending = e; listed = n; used = used } ≡ ranOf whole
+      done-answer = ap (λ (x : Finished). record { ending = x .ending; listed = x .listed; used = x .used }) (done ∙ finish-is)
+
+      pub done-literals : ls′ ≡ literalsOf whole ls
+      done-literals = ap (λ (x : Finished). x .literals) (done ∙ finish-is)
+
+      pub done-entries : es′ ≡ entriesOf laid whole es
+      done-entries = ap (λ (x : Finished). x .entries) (done ∙ finish-is)
+
+-- ---- the whole run
+module _ (b : Bounds) (t book : List ℕ) where
+  pub run-read : refusesOf t book ≡ 0 → runOf b t book ≡ cutRun b 0 0 (scriptOf t book)
+  unfolding runOf readingOf
+  run-read z = rw (eq-eqb (refusesOf t book) 0 z)
+
+  pub run-refused : (refusesOf t book ≡ 0 → ⊥) → runOf b t book ≡ ended (Stop (fault (refusesOf t book) start))
+  unfolding runOf readingOf cutRun
+  run-refused n = rw (ne-eqb (refusesOf t book) 0 n)
+
+  -- what is refused at the door lists nothing, and leaves the memory as it was
+  module _ (no : refusesOf t book ≡ 0 → ⊥) where
+    pub refused-answer : record { ending = Stop (fault (refusesOf t book) start); listed = 0; used = 0 } ≡ ranOf (runOf b t book)
+    refused-answer = rw (run-refused no)
+
+    pub refused-literals : (old : List ℕ) → old ≡ literalsOf (runOf b t book) old
+    refused-literals old = rw (run-refused no)
+
+    pub refused-entries : (laid : Entry → List ℕ) (old : List ℕ) → old ≡ entriesOf laid (runOf b t book) old
+    unfolding laidOut
+    refused-entries laid old = rw (run-refused no)

@@ -1,0 +1,131 @@
+// The run over a script: document 01, "Run". It lists the tokens in their order, within a limit and what is lent.
+ghost use mathlib.Core.Path.{_≡_};
+ghost use mathlib.Core.Bool.{true};
+ghost use Prim.Native.Nat.{_+_, _*_, _≤_};
+ghost use lib.ListN.{length};
+ghost use lib.Seq.{sets};
+ghost use Rattle.token.specs.Table.{table};
+ghost use Rattle.book.specs.Book.{good};
+ghost use Rattle.reading.specs.Entries.{numbersOf};
+ghost use Rattle.reading.specs.CutRun.{cutRun};
+ghost use Rattle.script.specs.Script.{scriptOf};
+ghost use Rattle.script.specs.States.{begun};
+ghost use Rattle.run.specs.Run.{boundsOf, runOf, ranOf, literalsOf, entriesOf};
+use chars::cursor::Cursor;
+use fault::Fault;
+use fault::Part;
+use position::Position;
+use reading::Ending;
+use reading::Entry;
+use run_turn::Next;
+use script::State;
+
+// How a run ended, how many entries it listed, and how many literal bytes it used.
+pub struct Ran {
+    pub ending: Ending,
+    pub listed: usize,
+    pub used: usize,
+}
+
+// Puts an entry in as the n-th.
+fn store(e: Entry, n: usize, entries: &mut [u32])
+    requires { ⌜ (e .at ≤ 4294967295) × (e .len ≤ 4294967295) × (5 * n + 5 ≤ length (now entries)) ⌝ }
+    ensures { λ _. ⌜ now (entries .exit) ≡ sets (now (entries .entry)) (5 * n) (numbersOf e) ⌝ }
+{
+    let at = 5 * n;
+    let place = e.place;
+    entries[at] = e.kind as u32;
+    entries[at + 1] = place.line_number() as u32;
+    entries[at + 2] = place.column_number() as u32;
+    entries[at + 3] = e.at as u32;
+    entries[at + 4] = e.len as u32;
+}
+
+// The tokens of a script that was let in, turn by turn.
+fn tokens(
+    words: &[u8],
+    book: &[u8],
+    script: &[u8],
+    limit: usize,
+    literals: &mut [u8],
+    entries: &mut [u32],
+) -> Ran
+    requires { ⌜ (now words ≡ table) × (good (now book) ≡ true) × (length (now script) ≤ 16777216) ⌝ }
+    ensures { λ r. ⌜ r ≡ ranOf (cutRun (boundsOf 5 limit (length (now (literals .entry))) (length (now (entries .entry)))) 0 0 (scriptOf (now (script .entry)) (now (book .entry)))) ⌝ }
+    ensures { λ r. ⌜ now (literals .exit) ≡ literalsOf (cutRun (boundsOf 5 limit (length (now (literals .entry))) (length (now (entries .entry)))) 0 0 (scriptOf (now (script .entry)) (now (book .entry)))) (now (literals .entry)) ⌝ }
+    ensures { λ r. ⌜ now (entries .exit) ≡ entriesOf numbersOf (cutRun (boundsOf 5 limit (length (now (literals .entry))) (length (now (entries .entry)))) 0 0 (scriptOf (now (script .entry)) (now (book .entry)))) (now (entries .entry)) ⌝ }
+{
+    let room = entries.len() / 5;
+    let mut s = State {
+        cursor: Cursor {
+            at: 0,
+            place: Position::START,
+        },
+        level: 0,
+        braces: [0; 16],
+        due: false,
+    };
+    let mut listed = 0;
+    let mut used = 0;
+    loop {
+        let turned = run_turn::turn(
+            words,
+            book,
+            script,
+            s,
+            limit,
+            listed < room,
+            used,
+            &mut *literals,
+        );
+        let next = turned.next;
+        match next {
+            Next::On => {
+                s = turned.state;
+                used = turned.used;
+            }
+            Next::Listed(entry) => {
+                store(entry, listed, &mut *entries);
+                listed += 1;
+                s = turned.state;
+                used = turned.used;
+            }
+            Next::Over(ending) => {
+                return Ran {
+                    ending,
+                    listed,
+                    used,
+                };
+            }
+        }
+    }
+}
+
+// The tokens of a script from START, under a book: each as five numbers, and the bytes of its literals. A limit of 0 is none.
+// What a run that stops has listed stays; beyond it nothing is written.
+pub fn run(
+    script: &[u8],
+    book: &[u8],
+    limit: usize,
+    literals: &mut [u8],
+    entries: &mut [u32],
+) -> Ran
+    ensures { λ r. ⌜ r ≡ ranOf (runOf (boundsOf 5 limit (length (now (literals .entry))) (length (now (entries .entry)))) (now (script .entry)) (now (book .entry))) ⌝ }
+    ensures { λ r. ⌜ now (literals .exit) ≡ literalsOf (runOf (boundsOf 5 limit (length (now (literals .entry))) (length (now (entries .entry)))) (now (script .entry)) (now (book .entry))) (now (literals .entry)) ⌝ }
+    ensures { λ r. ⌜ now (entries .exit) ≡ entriesOf numbersOf (runOf (boundsOf 5 limit (length (now (literals .entry))) (length (now (entries .entry)))) (now (script .entry)) (now (book .entry))) (now (entries .entry)) ⌝ }
+{
+    let number = run_door::refuses(script, book);
+    if number == 0 {
+        let words = token::words();
+        return tokens(&words, book, script, limit, literals, entries);
+    }
+    Ran {
+        ending: Ending::Stop(Fault {
+            number,
+            place: Position::START,
+            part: Part::NONE,
+        }),
+        listed: 0,
+        used: 0,
+    }
+}

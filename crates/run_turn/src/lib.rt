@@ -1,0 +1,318 @@
+// One turn of a run over a script, within its limit and its rooms.
+ghost use mathlib.Core.Path.{_≡_};
+ghost use mathlib.Core.Bool.{true, false};
+ghost use Prim.Native.Nat.{_+_, _-_, _≤_, _<_};
+ghost use lib.Dec.{eqb};
+ghost use lib.ListN.{length};
+ghost use lib.Seq.{sets};
+ghost use Rattle.fault.specs.Faults.{fault};
+ghost use Rattle.utf8.specs.Table.{chars};
+ghost use Rattle.white.specs.White.{isWhite};
+ghost use Rattle.token.specs.Table.{table};
+ghost use Rattle.book.specs.Book.{good};
+ghost use Rattle.literal.specs.Trace.{bytes};
+ghost use Rattle.literal.specs.Cut.{cut};
+ghost use Rattle.literal.specs.declared.Scanned.the-variants.{Accepted};
+ghost use Rattle.string_take.specs.Kinds.{apostrophe};
+ghost use Rattle.string_reading.specs.Scans.{readingOf};
+ghost use Rattle.reading.specs.CutRun.{full, scanned};
+ghost use Rattle.reading.specs.declared.Ending.the-variants.{Stop};
+ghost use Rattle.script.specs.States.{Fine};
+ghost use Rattle.script.specs.Steps.{terminatorOf, traceOf, wrongOf, faultOf, literalOf, partOf, endOf, stepOf};
+ghost use Rattle.run_turn.specs.declared.Next.the-variants.{Over};
+ghost use Rattle.run_turn.specs.Turns.{within, turnOf, keptOf, listedAs};
+use chars::cursor::Cursor;
+use fault::Fault;
+use fault::Part;
+use find::Found;
+use literal::End;
+use literal::Scanned;
+use position::Position;
+use reading::Ending;
+use reading::Entry;
+use script::Passed;
+use script::State;
+use utf8::Look;
+
+const QUOTE: u32 = 0x22;
+
+const APOSTROPHE: u32 = 0x27;
+
+const BACKTICK: u32 = 0x60;
+
+// The kind of a piece of text that `${` ended.
+const INTERPOLATED: u8 = 6;
+
+// What a turn comes to: nothing is listed, an entry is, or the run is over.
+pub enum Next {
+    On,
+    Listed(Entry),
+    Over(Ending),
+}
+
+// Where a run stands behind a turn, how many literal bytes are used then, and what the turn came to.
+pub struct Turned {
+    pub state: State,
+    pub used: usize,
+    pub next: Next,
+}
+
+// The terminator of a kind of string literal.
+fn terminator_of(kind: u8) -> u32
+    ensures { λ r. ⌜ r ≡ terminatorOf kind ⌝ }
+{
+    if kind == Found::STRING {
+        return QUOTE;
+    }
+    if kind == Found::CHAR {
+        return APOSTROPHE;
+    }
+    BACKTICK
+}
+
+// A literal's answer within the limit and the room.
+fn measure(text: &[u8], kind: u8, from: Cursor, limit: usize, room: usize) -> Scanned
+    ensures { λ r. ⌜ r ≡ cut (full from) limit room 0 (traceOf (now (text .entry)) kind from) ⌝ }
+{
+    if kind == Found::RAW {
+        return raw_scan::measure(text, from, 0, limit, room);
+    }
+    string_scan::measure(text, from, terminator_of(kind), limit, room)
+}
+
+// Whether the body of a `'` literal is one character; none has more than four bytes.
+fn is_one_character(text: &[u8], from: Cursor, len: usize) -> bool
+    requires { ⌜ len ≡ length (bytes (readingOf isWhite (now text) apostrophe from)) ⌝ }
+    ensures { λ r. ⌜ r ≡ eqb (length (chars (bytes (readingOf isWhite (now (text .entry)) apostrophe from)))) 1 ⌝ }
+{
+    if 4 < len {
+        return false;
+    }
+    let mut body: [u8; 4] = [0; 4];
+    string_write::write(text, from, APOSTROPHE, &mut body);
+    let Look::Char(_, width) = utf8::look_at(&body, 0) else {
+        return false;
+    };
+    width == len
+}
+
+// What is wrong with a literal that its scan accepts, by number; 0 for nothing.
+fn wrong_of(text: &[u8], kind: u8, level: usize, from: Cursor, end: End, len: usize) -> u8
+    requires { ⌜ len ≡ length (bytes (traceOf (now text) kind from)) ⌝ }
+    ensures { λ r. ⌜ r ≡ wrongOf kind level end (bytes (traceOf (now (text .entry)) kind from)) ⌝ }
+{
+    let on_record = end.on_record;
+    if on_record.times != 0 {
+        return Fault::STILL_OPEN;
+    }
+    if end.interpolated {
+        if 16 <= level {
+            return Fault::TOO_DEEP;
+        }
+        return 0;
+    }
+    if kind == Found::CHAR {
+        if is_one_character(text, from, len) {
+            return 0;
+        }
+        return Fault::NOT_ONE_CHARACTER;
+    }
+    0
+}
+
+// Writes the body of a literal that is listed, behind the literal bytes that are used.
+fn write(text: &[u8], kind: u8, from: Cursor, len: usize, used: usize, literals: &mut [u8])
+    requires { ⌜ (from .at ≤ length (now text)) × (len ≡ length (bytes (traceOf (now text) kind from))) × (used + len ≤ length (now literals)) ⌝ }
+    ensures { λ _. ⌜ now (literals .exit) ≡ sets (now (literals .entry)) used (bytes (traceOf (now (text .entry)) kind from)) ⌝ }
+{
+    if kind == Found::RAW {
+        raw_write::write(text, from, 0, len, &mut literals[used..]);
+        return;
+    }
+    string_write::write(text, from, terminator_of(kind), &mut literals[used..]);
+}
+
+// The run is over.
+fn over(s: State, used: usize, ending: Ending) -> Turned
+    ensures { λ r. ⌜ r ≡ record { state = s; used = used; next = Over ending } ⌝ }
+{
+    Turned {
+        state: s,
+        used,
+        next: Next::Over(ending),
+    }
+}
+
+// It stops with a fault that is about no part of the script.
+fn stop(s: State, used: usize, number: u8, place: Position) -> Turned
+    ensures { λ r. ⌜ r ≡ record { state = s; used = used; next = Over (Stop (fault number place)) } ⌝ }
+{
+    let fault = Fault {
+        number,
+        place,
+        part: Part::NONE,
+    };
+    over(s, used, Ending::Stop(fault))
+}
+
+// A literal that is listed: a piece of text that `${` ends opens an interpolation.
+fn list(kind: u8, end: End, place: Position, len: usize, s: State, at: usize, used: usize) -> Turned
+    requires { ⌜ Fine s × (used ≡ at + len) × (end .interpolated ≡ true → s .level < 16) ⌝ }
+    ensures { λ r. ⌜ r ≡ listedAs kind end place len s at ⌝ }
+{
+    let to = end.cursor;
+    if end.interpolated {
+        let kind = INTERPOLATED;
+        return Turned {
+            state: s.behind(Passed::Piece, to),
+            used,
+            next: Next::Listed(Entry {
+                kind,
+                place,
+                at,
+                len,
+            }),
+        };
+    }
+    Turned {
+        state: s.behind(Passed::Plain, to),
+        used,
+        next: Next::Listed(Entry {
+            kind,
+            place,
+            at,
+            len,
+        }),
+    }
+}
+
+// A literal that its scan accepts, within the limit and the room.
+fn accepted(
+    text: &[u8],
+    kind: u8,
+    from: Cursor,
+    end: End,
+    len: usize,
+    s: State,
+    limit: usize,
+    free: bool,
+    used: usize,
+    literals: &mut [u8],
+) -> Turned
+    requires { ⌜ Fine s × (from .at ≤ length (now text)) × (used ≤ length (now literals)) × (scanned (within limit (length (now literals))) used from (traceOf (now text) kind from) ≡ Accepted end len) ⌝ }
+    ensures { λ r. ⌜ r ≡ turnOf (within limit (length (now (literals .entry)))) free used s (literalOf (now (text .entry)) kind from s) ⌝ }
+    ensures { λ r. ⌜ now (literals .exit) ≡ keptOf (within limit (length (now (literals .entry)))) free used (literalOf (now (text .entry)) kind from s) (now (literals .entry)) ⌝ }
+{
+    let after = used + len;
+    let place = from.place;
+    let wrong = wrong_of(text, kind, s.level, from, end, len);
+    if wrong == Fault::STILL_OPEN {
+        let to = end.cursor;
+        return stop(s, used, wrong, to.place);
+    }
+    if wrong != 0 {
+        return stop(s, used, wrong, place);
+    }
+    if free {
+        write(text, kind, from, len, used, literals);
+        return list(kind, end, place, len, s, used, after);
+    }
+    stop(s, used, Fault::NO_TOKEN_ROOM, place)
+}
+
+// A literal of a kind, from where its scan starts.
+fn literal(
+    text: &[u8],
+    kind: u8,
+    from: Cursor,
+    s: State,
+    limit: usize,
+    free: bool,
+    used: usize,
+    literals: &mut [u8],
+) -> Turned
+    requires { ⌜ Fine s × (from .at ≤ length (now text)) × (used ≤ length (now literals)) ⌝ }
+    ensures { λ r. ⌜ r ≡ turnOf (within limit (length (now (literals .entry)))) free used s (literalOf (now (text .entry)) kind from s) ⌝ }
+    ensures { λ r. ⌜ now (literals .exit) ≡ keptOf (within limit (length (now (literals .entry)))) free used (literalOf (now (text .entry)) kind from s) (now (literals .entry)) ⌝ }
+{
+    let scanned = measure(text, kind, from, limit, literals.len() - used);
+    match scanned {
+        Scanned::Refused(refusal) => {
+            let fault = refusal.fault;
+            return over(s, used, Ending::Stop(fault));
+        }
+        Scanned::Accepted(end, len) => {
+            return accepted(text, kind, from, end, len, s, limit, free, used, literals);
+        }
+    }
+}
+
+// A token that is a part of the script, up to a cursor.
+fn part(kind: u8, token: u8, to: Cursor, s: State, free: bool, used: usize) -> Turned
+    requires { ⌜ Fine s × (s .cursor .at ≤ to .at) ⌝ }
+    ensures { λ r. ⌜ r ≡ turnOf (within 0 0) free used s (partOf kind token to s) ⌝ }
+{
+    let cursor = s.cursor;
+    let at = cursor.at;
+    let place = cursor.place.advanced();
+    if free {
+        let len = to.at - at;
+        return Turned {
+            state: s.behind(Passed::Token(token), to),
+            used,
+            next: Next::Listed(Entry {
+                kind,
+                place,
+                at,
+                len,
+            }),
+        };
+    }
+    stop(s, used, Fault::NO_TOKEN_ROOM, place)
+}
+
+// The script's end: 11 at the cursor where an interpolation is open.
+fn end(s: State, used: usize) -> Turned
+    ensures { λ r. ⌜ r ≡ turnOf (within 0 0) false used s (endOf s) ⌝ }
+{
+    let cursor = s.cursor;
+    let place = cursor.place;
+    if s.level == 0 {
+        return over(s, used, Ending::End(place));
+    }
+    stop(s, used, Fault::STILL_OPEN, place)
+}
+
+// Inner: one turn, for a run, which has checked its script and its book and holds the words. A text that is due goes on from its
+// `}`; else what begins here.
+pub fn turn(
+    words: &[u8],
+    book: &[u8],
+    text: &[u8],
+    s: State,
+    limit: usize,
+    free: bool,
+    used: usize,
+    literals: &mut [u8],
+) -> Turned
+    requires { ⌜ (now words ≡ table) × (good (now book) ≡ true) × Fine s × (s .cursor .at ≤ length (now text)) × (used ≤ length (now literals)) ⌝ }
+    ensures { λ r. ⌜ r ≡ turnOf (within limit (length (now (literals .entry)))) free used s (stepOf (now (text .entry)) (now (book .entry)) s) ⌝ }
+    ensures { λ r. ⌜ now (literals .exit) ≡ keptOf (within limit (length (now (literals .entry)))) free used (stepOf (now (text .entry)) (now (book .entry)) s) (now (literals .entry)) ⌝ }
+{
+    let cursor = s.cursor;
+    if s.due {
+        return literal(text, Found::TEXT, cursor, s, limit, free, used, literals);
+    }
+    let found = find::find(words, book, text, cursor);
+    match found {
+        Found::White(to) => Turned {
+            state: s.behind(Passed::Plain, to),
+            used,
+            next: Next::On,
+        },
+        Found::Part(kind, token, to) => part(kind, token, to, s, free, used),
+        Found::Literal(kind, from) => literal(text, kind, from, s, limit, free, used, literals),
+        Found::Wrong(fault) => over(s, used, Ending::Stop(fault)),
+        Found::End => end(s, used),
+    }
+}
