@@ -1,0 +1,122 @@
+-- Between two turns what the run will have left is what it would have left from the start: proofs/Finishes.antt of crate run.
+use Prim.Native.Nat.{ℕ, _+_, _-_, _*_, _≤_}
+use native.Mathlib.Omega.{arith}
+use mathlib.Core.List.{List}
+use mathlib.Core.Path.{_≡_, refl, sym, _∙_}
+use lib.ListN.{length}
+use borrow.Author.Needs.{needs}
+use Rattle.reading.specs.CutRun.{Bounds}
+use Rattle.position.specs.Place.{start}
+use Rattle.script.specs.States.{begun}
+use Rattle.run.specs.Run.{boundsOf}
+use Rattle.run.proofs.Finishes.{Running, run-on, run-listed, run-more, run-over}
+use Rattle.run.proofs.Runs.{run-begun, done-answer, done-literals, done-entries}
+use Rattle.run_bytes.specs.Bytes.{bytesOf}
+use Rattle.run_bytes.proofs.Rows.{entry-next, entry-room, entries-fit}
+use Rattle.run_bytes.proofs.tokens.Statement.{statement}
+use Rattle.run_bytes.proofs.tokens.Tie as tie
+
+-- twenty bytes for each entry
+abbrev index : ℕ → ℕ
+index n = 20 * n
+
+abbrev Inv-loop : tie.InvT-loop
+Inv-loop words book script limit literals₀ entries₀ room s₀ listed₀ used₀ literals entries s listed used =
+    Running index bytesOf script book (boundsOf 20 limit (length literals₀) (length entries₀)) entries₀ literals₀ begun s listed used entries literals
+
+abbrev μ-loop : tie.MeasureT-loop
+μ-loop words book script limit literals₀ entries₀ room s₀ listed₀ used₀ literals entries s listed used = length script - s .cursor .at
+
+loop-holds : tie.Need-loop-holds Inv-loop μ-loop
+unfolding begun start
+loop-holds c = run-begun index bytesOf _ _ _ _ _ refl
+
+turn-requires : tie.Need-turn-requires Inv-loop μ-loop
+turn-requires c κs =
+    let loop = c .before in
+    let start = loop .before .before .before .before .before .before in
+    let run = loop .loop .inv in
+    (start .pre .0, start .pre .1, run .stands .fine, run .stands .within, rw (run .room) (run .stands .room))
+
+loop-less : tie.Need-loop-less Inv-loop μ-loop
+loop-less c =
+    let told = c .before in
+    let turn = told .before .before .before .before in
+    let loop = turn .before .before in
+    let start = loop .before .before .before .before .before .before in
+    let on = run-on _ _ _ _ _ (start .pre .2) (loop .loop .inv) (turn .turn .ensures .0) (turn .turn .ensures .1) (told .enum-told .given .1) in
+    omega (arith, on .0, on .1 .stands .within)
+
+loop-again : tie.Need-loop-again Inv-loop μ-loop
+loop-again c =
+    let told = c .before in
+    let turn = told .before .before .before .before in
+    let loop = turn .before .before in
+    let start = loop .before .before .before .before .before .before in
+    run-on _ _ _ _ _ (start .pre .2) (loop .loop .inv) (turn .turn .ensures .0) (turn .turn .ensures .1) (told .enum-told .given .1) .1
+
+store-requires : tie.Need-store-requires Inv-loop μ-loop
+store-requires c κs =
+    let told = c .before .before in
+    let turn = told .before .before .before .before in
+    let loop = turn .before .before in
+    let start = loop .before .before .before .before .before .before in
+    let listed = run-listed _ _ _ _ _ (start .pre .2) (loop .loop .inv) (turn .turn .ensures .0) (turn .turn .ensures .1) _ (told .next .given .1) in
+    rw (loop .loop .inv .entries) (entry-room _ _ (listed .1))
+
+add-listed : tie.Need-add-listed Inv-loop μ-loop
+add-listed c =
+    let told = c .before .before .before .before .before in
+    let loop = told .before .before .before .before .before .before in
+    let start = loop .before .before .before .before .before .before in
+    omega (arith, loop .loop .inv .stands .short, loop .loop .inv .stands .within, start .pre .2)
+
+loop-less-2 : tie.Need-loop-less-2 Inv-loop μ-loop
+loop-less-2 c =
+    let store = c .before .before .before in
+    let told = store .before .before .before in
+    let turn = told .before .before .before .before in
+    let loop = turn .before .before in
+    let start = loop .before .before .before .before .before .before in
+    let more = run-more _ _ _ _ _ (start .pre .2) (loop .loop .inv) (turn .turn .ensures .0) (turn .turn .ensures .1) _ (told .next .given .1) (entry-next _ _) _ (store .store .ensures) in
+    omega (arith, more .0, more .1 .stands .within)
+
+loop-again-2 : tie.Need-loop-again-2 Inv-loop μ-loop
+loop-again-2 c =
+    let store = c .before .before .before in
+    let told = store .before .before .before in
+    let turn = told .before .before .before .before in
+    let loop = turn .before .before in
+    let start = loop .before .before .before .before .before .before in
+    run-more _ _ _ _ _ (start .pre .2) (loop .loop .inv) (turn .turn .ensures .0) (turn .turn .ensures .1) _ (told .next .given .1) (entry-next _ _) _ (store .store .ensures) .1
+
+returns : tie.Need-returns Inv-loop μ-loop
+returns c =
+    let told = c .before in
+    let turn = told .before .before .before .before in
+    let loop = turn .before .before in
+    let start = loop .before .before .before .before .before .before in
+    let done = run-over _ _ _ _ _ (start .pre .2) (loop .loop .inv) (turn .turn .ensures .0) (turn .turn .ensures .1) _ (told .next2 .given .1) in
+    let fit = entries-fit _ _ in
+    (done-answer _ _ _ _ _ _ _ refl refl fit done, (done-literals _ _ _ _ _ _ _ refl refl fit done, done-entries _ _ _ _ _ _ _ refl refl fit done))
+
+pub tokens-spec : {M : Type 1} → statement M
+tokens-spec =
+    tie.close
+    (tie.spec
+    Inv-loop
+    μ-loop
+    loop-holds
+    turn-requires
+    (λ c. search needs)
+    loop-less
+    loop-again
+    (λ c. search needs)
+    store-requires
+    add-listed
+    loop-less-2
+    loop-again-2
+    (λ c. search needs)
+    (λ c. search needs)
+    (λ c. search needs)
+    returns)
