@@ -1,0 +1,29 @@
+-- Each byte is written once.
+use Prim.Native.Nat.{_-_, _≤_}
+use lib.ListN.{length}
+use borrow.Author.Needs.{needs}
+use Rattle.listing.proofs.print_hex.Statement.{statement}
+use Rattle.listing.proofs.print_hex.Tie as tie
+
+abbrev Inv-loop : tie.InvT-loop
+Inv-loop bytes at₀ at = at ≤ length bytes
+
+abbrev μ-loop : tie.MeasureT-loop
+μ-loop bytes at₀ at = length bytes - at
+
+pub print-hex-spec : {M : Type 1} → statement M
+print-hex-spec =
+    tie.close
+    (tie.spec
+    Inv-loop
+    μ-loop
+    (λ c. search needs)
+    (λ c κs. search needs)
+    (λ c. search needs)
+    (λ c. search needs)
+    (λ c. search needs)
+    (λ c κs. search needs)
+    (λ c. search needs)
+    (λ c. search needs)
+    (λ c. search needs)
+    (λ c. search needs))
