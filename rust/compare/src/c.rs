@@ -8,8 +8,8 @@
 //! none of them is kept as it is, so that it equals no right answer.
 
 use crate::place::Place;
-use crate::reading::Scan;
 use crate::start::Start;
+use oracle::reading::Scanner;
 
 extern "C" {
     fn stew_place(line: u16, column: u16, answer: *mut u8, answer_room: usize) -> u32;
@@ -225,7 +225,7 @@ pub fn scan_block_comment(start: Start, level: usize, answer: &mut [u8]) -> u32 
 }
 
 pub fn scan_literal(
-    scan: Scan,
+    scan: Scanner,
     start: Start,
     limit: usize,
     out: &mut [u8],
@@ -236,17 +236,17 @@ pub fn scan_literal(
     let (out, room) = (out.as_mut_ptr(), out.len());
     let (row, row_room) = (answer.as_mut_ptr(), answer.len());
     match scan {
-        Scan::Raw => unsafe {
+        Scanner::Raw => unsafe {
             stew_parse_raw_string_literal(
                 text, length, at, line, column, limit, out, room, row, row_room,
             )
         },
-        Scan::Resumed(hashes) => unsafe {
+        Scanner::Resumed(hashes) => unsafe {
             stew_resume_raw_string_literal(
                 text, length, at, line, column, hashes, limit, out, room, row, row_room,
             )
         },
-        Scan::String(terminator) => unsafe {
+        Scanner::String(terminator) => unsafe {
             stew_parse_string_literal(
                 text, length, at, line, column, terminator, limit, out, room, row, row_room,
             )

@@ -9,8 +9,8 @@ use crate::size::Size;
 use crate::start::{each_odd_start, each_random_start, longest_text, Refusal, Start, PLACES};
 use crate::texts::{each_edit, each_text};
 use crate::token::listed;
-use oracle::identifier::{self as rust, Scanned, Word};
-use oracle::{token, words, LexError};
+use oracle::identifier::{self as rust, by_book, Scanned, Word};
+use oracle::{token, words};
 
 const NAME: &str = "parse_identifier_token";
 
@@ -104,16 +104,6 @@ fn explained(start: Start, book: &Book) -> Option<Refusal> {
     bad.then_some(Refusal::new(14, "bad book"))
 }
 
-/// What a word is where a book stands in for the source's list.
-fn by_book(book: &Book, word: &Word, text: &str) -> Word {
-    match word {
-        Word::Token(_) => word.clone(),
-        _ if book.has(text) => Word::Reserved(text.into()),
-        _ if words::is_valid_identifier(text) => Word::Identifier(text.into()),
-        _ => Word::LexError(LexError::MalformedIdentifier(text.into())),
-    }
-}
-
 /// The driver: a report, and the numbers of two tokens.
 struct Identifiers<'r> {
     report: &'r mut Report,
@@ -150,7 +140,8 @@ impl<'r> Identifiers<'r> {
             (why, row)
         });
         let by_book = text.zip(read.as_ref()).and_then(|(text, read)| {
-            let word = by_book(book, &read.word, &text[start.at..read.offset]);
+            let text = &text[start.at..read.offset];
+            let word = by_book(&read.word, text, book.has(text));
             let other = word != read.word;
             other.then(|| ("another book", self.told(start, read, &word)))
         });
@@ -276,23 +267,6 @@ mod tests {
         assert_eq!(number(at_end, &bad), Some(3));
         assert_eq!(number(at_letter, &bad), Some(14));
         assert_eq!(number(at_letter, &good), None);
-    }
-
-    #[test]
-    fn keyword_before_reserved_before_validity() {
-        let book = Book::of([("in", 0), ("_1", 0)]);
-        let reserved = Word::Reserved("is".into());
-        let malformed = Word::LexError(LexError::MalformedIdentifier("_1".into()));
-        assert_eq!(by_book(&book, &Word::Token(49), "in"), Word::Token(49));
-        assert_eq!(
-            by_book(&book, &malformed, "_1"),
-            Word::Reserved("_1".into())
-        );
-        assert_eq!(
-            by_book(&book, &reserved, "is"),
-            Word::Identifier("is".into())
-        );
-        assert_eq!(by_book(&Book::of([]), &malformed, "_1"), malformed);
     }
 
     #[test]

@@ -17,8 +17,6 @@ pub mod position;
 pub mod random;
 #[cfg(all(rhai_source, stew_archive))]
 pub mod raw;
-#[cfg(rhai_source)]
-pub mod reading;
 pub mod report;
 pub mod size;
 pub mod start;

@@ -3,11 +3,10 @@
 use crate::c;
 use crate::lent::{compare_short_answers, Bytes, Lent, Told};
 use crate::place::{Packed, Place};
-use crate::reading::{Read, Reading, Scan};
 use crate::report::{Case, Report};
 use crate::start::{each_odd_start, each_random_start, longest_text, Refusal, Start, LONGEST};
 use crate::texts::each_text;
-use oracle::LexError;
+use oracle::reading::{Read, Reading, Scanner};
 use std::fmt;
 
 /// A room that no body of a short text passes.
@@ -76,7 +75,7 @@ impl Scanned {
         let part = read.fault.part();
         let taken = text[..read.offset].strip_suffix(part.as_bytes())?;
         Some(Self {
-            number: number(&read.fault)?,
+            number: read.fault.number()?.into(),
             offset: read.offset as u64,
             position: read.position.into(),
             record: record(read.record.as_deref()),
@@ -96,26 +95,21 @@ fn record(record: Option<&str>) -> (u64, u64) {
     (ch, record.chars().count() as u64)
 }
 
-fn number(fault: &LexError) -> Option<u64> {
-    match fault {
-        LexError::UnterminatedString => Some(4),
-        LexError::UnexpectedInput(_) => Some(5),
-        LexError::MalformedEscapeSequence(_) => Some(6),
-        LexError::StringTooLong(_) => Some(7),
-        _ => None,
-    }
-}
-
 /// The refusal that document 01 asks for where the Rust panics, goes on, or cannot be asked.
-fn explained(scan: Scan, start: Start) -> Option<Refusal> {
+fn explained(scan: Scanner, start: Start) -> Option<Refusal> {
     let (bad, why) = match scan {
-        Scan::Raw => (false, ""),
-        Scan::Resumed(hashes) => (!(1..=LONGEST).contains(&hashes), "hash count"),
-        Scan::String(0x22) => (start.place.1 == 0, "column 0 in an ordinary literal"),
-        Scan::String(terminator) => (![0x27, 0x60].contains(&terminator), "terminator"),
+        Scanner::Raw => (false, ""),
+        Scanner::Resumed(hashes) => (!(1..=LONGEST).contains(&hashes), "hash count"),
+        Scanner::String(0x22) => (start.place.1 == 0, "column 0 in an ordinary literal"),
+        Scanner::String(terminator) => (![0x27, 0x60].contains(&terminator), "terminator"),
     };
     let refused = start.refused();
     refused.or_else(|| bad.then_some(Refusal::new(3, why)))
+}
+
+/// `None` where the Rust has no answer.
+fn reading_of(scan: Scanner, start: Start) -> Option<Reading> {
+    Reading::new(scan, start.str()?, start.at, start.place)
 }
 
 const NO_ROOM: Refusal = Refusal::new(9, "no room");
@@ -123,7 +117,7 @@ const NO_ROOM: Refusal = Refusal::new(9, "no room");
 /// What a scanner is asked.
 #[derive(Clone, Copy)]
 struct Question<'a> {
-    scan: Scan,
+    scan: Scanner,
     start: Start<'a>,
     limit: usize,
     room: usize,
@@ -157,9 +151,9 @@ struct Answer<'a> {
 impl Question<'_> {
     fn name(&self) -> &'static str {
         match self.scan {
-            Scan::Raw => "parse_raw_string_literal",
-            Scan::Resumed(_) => "resume_raw_string_literal",
-            Scan::String(_) => "parse_string_literal",
+            Scanner::Raw => "parse_raw_string_literal",
+            Scanner::Resumed(_) => "resume_raw_string_literal",
+            Scanner::String(_) => "parse_string_literal",
         }
     }
 
@@ -185,11 +179,11 @@ impl<'r> Literals<'r> {
     }
 
     /// Compares a literal under every limit and in every room.
-    pub fn compare(&mut self, scan: Scan, start: Start, limits: &[usize], rooms: &[usize]) {
+    pub fn compare(&mut self, scan: Scanner, start: Start, limits: &[usize], rooms: &[usize]) {
         let refused = explained(scan, start);
         let reading = match refused {
             Some(_) => None,
-            None => Reading::new(scan, start),
+            None => reading_of(scan, start),
         };
         let reading = reading.as_ref();
         for &limit in limits {
@@ -243,7 +237,7 @@ impl<'r> Literals<'r> {
     }
 
     /// Every short text over an alphabet, behind a front that is passed over.
-    pub fn sweep(&mut self, scans: &[Scan], sweep: &Sweep) {
+    pub fn sweep(&mut self, scans: &[Scanner], sweep: &Sweep) {
         let mut text = String::from(sweep.front);
         each_text(sweep.alphabet, sweep.longest, &mut |short| {
             text.truncate(sweep.front.len());
@@ -261,7 +255,7 @@ impl<'r> Literals<'r> {
         });
     }
 
-    pub fn random(&mut self, scans: &[Scan], pieces: &[&str], count: usize) {
+    pub fn random(&mut self, scans: &[Scanner], pieces: &[&str], count: usize) {
         each_random_start(pieces, 24, count, &mut |random, start| {
             let longest = start.text.len() + 2;
             let limits = [0, random.below(longest)];
@@ -271,13 +265,13 @@ impl<'r> Literals<'r> {
     }
 
     /// The longest text in the domain.
-    pub fn longest(&mut self, scan: Scan) {
+    pub fn longest(&mut self, scan: Scanner) {
         let text = longest_text();
         self.compare(scan, Start::front(&text, (1, 1)), &[0], &[LONGEST]);
     }
 
     /// Starts that are refused, and answers too short for their row.
-    pub fn refused(&mut self, scans: &[Scan]) {
+    pub fn refused(&mut self, scans: &[Scanner]) {
         each_odd_start(&mut |start| {
             for &scan in scans {
                 self.compare(scan, start, &[0, 1, usize::MAX], &[0, 1, AMPLE]);
@@ -288,7 +282,7 @@ impl<'r> Literals<'r> {
         }
     }
 
-    fn short_answers(&mut self, scan: Scan) {
+    fn short_answers(&mut self, scan: Scanner) {
         let question = Question {
             scan,
             start: Start::front("\"a\"#", (1, 1)),
@@ -325,13 +319,13 @@ mod tests {
     #[test]
     fn arguments_that_document_01_refuses() {
         let is_bad = |scan, column| explained(scan, front("", (1, column))).is_some();
-        assert!(!is_bad(Scan::Raw, 0));
-        let hashes = [0, 1, LONGEST, LONGEST + 1].map(Scan::Resumed);
+        assert!(!is_bad(Scanner::Raw, 0));
+        let hashes = [0, 1, LONGEST, LONGEST + 1].map(Scanner::Resumed);
         assert_eq!(
             hashes.map(|scan| is_bad(scan, 0)),
             [true, false, false, true]
         );
-        let strings = [0x22, 0x27, 0x60, 0x2f].map(Scan::String);
+        let strings = [0x22, 0x27, 0x60, 0x2f].map(Scanner::String);
         assert_eq!(
             strings.map(|scan| is_bad(scan, 0)),
             [true, false, false, true]
@@ -340,14 +334,14 @@ mod tests {
             strings.map(|scan| is_bad(scan, 1)),
             [false, false, false, true]
         );
-        assert_eq!(explained(Scan::Raw, front("", (0, 1))), Some(LINE_0));
+        assert_eq!(explained(Scanner::Raw, front("", (0, 1))), Some(LINE_0));
     }
 
     #[test]
     fn a_fault_is_about_the_part_before_its_offset() {
         let text = "aé\\x4g\"";
         let scanned = |text, limit| {
-            let reading = Reading::new(Scan::String(0x22), front(text, (1, 1)))?;
+            let reading = reading_of(Scanner::String(0x22), front(text, (1, 1)))?;
             Scanned::of(&reading.limited(limit)?, text.as_bytes())
         };
         let malformed = scanned(text, 0).expect("an answer");

@@ -1,16 +1,16 @@
 //! Raw string literals, fresh and resumed.
 
 use crate::literal::{Literals, Sweep, AMPLE};
-use crate::reading::Scan;
 use crate::report::Report;
 use crate::size::Size;
 use crate::start::{Start, LONGEST, PLACES};
+use oracle::reading::Scanner;
 
-const SCANS: [Scan; 4] = [
-    Scan::Raw,
-    Scan::Resumed(1),
-    Scan::Resumed(2),
-    Scan::Resumed(3),
+const SCANS: [Scanner; 4] = [
+    Scanner::Raw,
+    Scanner::Resumed(1),
+    Scanner::Resumed(2),
+    Scanner::Resumed(3),
 ];
 
 const ALPHABET: [char; 4] = ['"', '#', '\n', 'a'];
@@ -26,7 +26,7 @@ pub fn run(report: &mut Report, size: Size) {
     literals.random(&SCANS, &PIECES, size.of(10_000, 2_000_000));
     long_texts(&mut literals, size);
     if size == Size::All {
-        literals.longest(Scan::Resumed(1));
+        literals.longest(Scanner::Resumed(1));
     }
     hash_counts(&mut literals);
     literals.refused(&SCANS);
@@ -83,7 +83,7 @@ fn hash_counts(literals: &mut Literals) {
     for hashes in [0, 1, LONGEST, LONGEST + 1, usize::MAX] {
         for text in ["", "\"", "\"#", "a\"#"] {
             let start = Start::front(text, (1, 1));
-            literals.compare(Scan::Resumed(hashes), start, &[0, 1], &[0, AMPLE]);
+            literals.compare(Scanner::Resumed(hashes), start, &[0, 1], &[0, AMPLE]);
         }
     }
 }

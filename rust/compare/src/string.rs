@@ -1,19 +1,19 @@
 //! String literals, for the three terminators.
 
 use crate::literal::{Literals, Sweep, AMPLE};
-use crate::reading::Scan;
 use crate::report::Report;
 use crate::size::Size;
 use crate::start::{Start, PLACES};
 use crate::texts::each_text;
+use oracle::reading::Scanner;
 
-const QUOTE: Scan = Scan::String(0x22);
-const APOSTROPHE: Scan = Scan::String(0x27);
-const BACKTICK: Scan = Scan::String(0x60);
-const SCANS: [Scan; 3] = [QUOTE, APOSTROPHE, BACKTICK];
+const QUOTE: Scanner = Scanner::String(0x22);
+const APOSTROPHE: Scanner = Scanner::String(0x27);
+const BACKTICK: Scanner = Scanner::String(0x60);
+const SCANS: [Scanner; 3] = [QUOTE, APOSTROPHE, BACKTICK];
 
 /// For each terminator, what its literals tell apart.
-const ALPHABETS: [(Scan, [char; 7]); 3] = [
+const ALPHABETS: [(Scanner, [char; 7]); 3] = [
     (QUOTE, ['"', '\\', '\n', '\r', ' ', 'n', 'a']),
     (APOSTROPHE, ['\'', '\\', '\n', '\r', ' ', 't', '"']),
     (BACKTICK, ['`', '\\', '\n', '\r', '$', '{', 'a']),
@@ -164,7 +164,7 @@ fn terminators(literals: &mut Literals) {
     for terminator in beside.into_iter().chain(ending).chain(none) {
         for text in ["", "\"'`", "!", "a/"] {
             let start = Start::front(text, (1, 1));
-            literals.compare(Scan::String(terminator), start, &[0], &[0, AMPLE]);
+            literals.compare(Scanner::String(terminator), start, &[0], &[0, AMPLE]);
         }
     }
 }

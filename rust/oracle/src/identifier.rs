@@ -5,7 +5,7 @@ use crate::scan::Scan;
 use crate::tokenizer::{access, InputStream};
 use crate::types::position::access::to_pair;
 use crate::types::Token;
-use crate::{token, LexError, Place};
+use crate::{token, words, LexError, Place};
 
 /// What an identifier's text turned out to be.
 #[derive(Debug, Clone, PartialEq, Eq)]
@@ -50,5 +50,16 @@ fn word(token: Token) -> Word {
         Token::Identifier(text) => Word::Identifier((*text).into()),
         Token::LexError(fault) => Word::LexError(*fault),
         token => Word::Token(token::number(&token)),
+    }
+}
+
+/// What a word is where a book stands in for the source's list: keyword before reserved before
+/// validity.
+pub fn by_book(word: &Word, text: &str, in_book: bool) -> Word {
+    match word {
+        Word::Token(_) => word.clone(),
+        _ if in_book => Word::Reserved(text.into()),
+        _ if words::is_valid_identifier(text) => Word::Identifier(text.into()),
+        _ => Word::LexError(LexError::MalformedIdentifier(text.into())),
     }
 }

@@ -21,6 +21,7 @@ pub mod comment;
 pub mod identifier;
 pub mod position;
 pub mod raw;
+pub mod reading;
 pub mod run;
 pub mod string;
 pub mod token;

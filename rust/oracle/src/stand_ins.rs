@@ -58,6 +58,18 @@ pub enum LexError {
 }
 
 impl LexError {
+    /// Document 01's number, where it has the fault.
+    pub fn number(&self) -> Option<u32> {
+        match self {
+            Self::UnterminatedString => Some(4),
+            Self::UnexpectedInput(_) => Some(5),
+            Self::MalformedEscapeSequence(_) => Some(6),
+            Self::StringTooLong(_) => Some(7),
+            Self::MalformedIdentifier(_) => Some(8),
+            Self::MalformedNumber(_) | Self::MalformedChar(_) | Self::ImproperSymbol(..) => None,
+        }
+    }
+
     /// The part of the text that the fault is about, empty where it names none.
     pub fn part(&self) -> &str {
         match self {

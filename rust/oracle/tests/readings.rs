@@ -2,7 +2,7 @@
 #![cfg(rhai_source)]
 
 use oracle::comment::{is_doc_comment, scan_block_comment};
-use oracle::identifier::{parse_identifier_token, Word};
+use oracle::identifier::{by_book, parse_identifier_token, Word};
 use oracle::raw::parse_raw_string_literal;
 use oracle::string::parse_string_literal;
 use oracle::{position, token, Accepted, LexError, Place, Refused};
@@ -146,6 +146,19 @@ fn identifiers_take_any_first_character() {
     let scanned = parse_identifier_token("- abc ", 2, (3, 7)).expect("a character");
     assert_eq!(scanned.place, (3, 7));
     assert_eq!((scanned.offset, scanned.position), (5, (3, 9)));
+}
+
+#[test]
+fn keyword_before_reserved_before_validity() {
+    let keyword = Word::Token(49);
+    let reserved = |text: &str| Word::Reserved(text.into());
+    let malformed = Word::LexError(LexError::MalformedIdentifier("_1".into()));
+    assert_eq!(by_book(&keyword, "in", true), keyword);
+    assert_eq!(by_book(&malformed, "_1", true), reserved("_1"));
+    assert_eq!(by_book(&malformed, "_1", false), malformed);
+    // What the source's own list says does not count.
+    let name = Word::Identifier("is".into());
+    assert_eq!(by_book(&reserved("is"), "is", false), name);
 }
 
 #[test]

@@ -235,14 +235,7 @@ mod ask {
     /// The part of the script that a fault is about ends where the scan stopped.
     fn fault(fault: &LexError, at: Place, text: &str, offset: usize) -> String {
         assert!(text[..offset].ends_with(fault.part()));
-        let number = match fault {
-            LexError::UnterminatedString => 4,
-            LexError::UnexpectedInput(_) => 5,
-            LexError::MalformedEscapeSequence(_) => 6,
-            LexError::StringTooLong(_) => 7,
-            LexError::MalformedIdentifier(_) => 8,
-            _ => 0,
-        };
+        let number = fault.number().unwrap_or(0);
         let length = fault.part().len();
         let from = if length == 0 { 0 } else { offset - length };
         format!(
