@@ -109,4 +109,16 @@ mod tests {
         assert!(bad.is_bad() && !bad.has("a"));
         assert!(!Book::of([]).is_bad());
     }
+
+    #[cfg(rhai_source)]
+    #[test]
+    fn the_oracle_reads_the_same_books() {
+        use oracle::book::words;
+        let book = Book::of([("b", 3), ("ab", 0)]);
+        assert_eq!(words(&book.bytes), Some(vec![("ab", 0), ("b", 3)]));
+        assert_eq!(words(&many_words(512)).map(|words| words.len()), Some(512));
+        for book in bad_books() {
+            assert_eq!(words(&book.bytes), None, "{:?}", book);
+        }
+    }
 }

@@ -17,12 +17,14 @@ mod cursor;
 mod scan;
 mod stand_ins;
 
+pub mod book;
 pub mod comment;
 pub mod identifier;
 pub mod position;
 pub mod raw;
 pub mod reading;
 pub mod run;
+pub mod script;
 pub mod string;
 pub mod token;
 pub mod words;

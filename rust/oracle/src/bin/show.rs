@@ -23,7 +23,7 @@ fn main() -> std::process::ExitCode {
 
 #[cfg(rhai_source)]
 mod ask {
-    use oracle::{comment, identifier, position, raw, run, string, token, Place};
+    use oracle::{comment, identifier, position, raw, run, script, string, token, Place};
 
     pub const USAGE: &str = "\
 usage: show identifier TEXT [PLACE]
@@ -31,7 +31,9 @@ usage: show identifier TEXT [PLACE]
        show raw HASHES LIMIT TEXT [PLACE]
        show string TERMINATOR LIMIT TEXT [PLACE]
        show run TEXT
-PLACE is LINE:POSITION, 1:1 if left out. None is printed where the Rust panics.";
+       show listing TEXT
+PLACE is LINE:POSITION, 1:1 if left out. None is printed where the Rust panics.
+The run is the source's own, the listing is document 01's.";
 
     /// The printed answer, or `None` where the words are no question.
     pub fn answer(words: &[&str]) -> Option<String> {
@@ -55,6 +57,7 @@ PLACE is LINE:POSITION, 1:1 if left out. None is printed where the Rust panics."
                 format!("{:?}", read)
             }
             ["run", text] => tokens(text),
+            ["listing", text] => script::listing(text.as_bytes()).trim_end().into(),
             _ => return None,
         })
     }
