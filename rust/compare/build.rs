@@ -1,7 +1,8 @@
 //! Links the proved static libraries, and tells the program what there is to compare.
 //!
 //! They are those that the file `archives` lists, in the folder that `STEW_ARCHIVES` names, else in
-//! the one that `rt staticlib` writes to. They are linked only if all of them are there.
+//! the one that `rt staticlib` writes to. They are linked only if all of them are there, and `stew`
+//! links two of them itself.
 
 use std::env;
 use std::path::{Path, PathBuf};
@@ -20,13 +21,23 @@ fn main() {
         println!("cargo:rustc-cfg=rhai_source");
     }
 
+    // Said by the build script of `stew`.
+    let linked = env::var("DEP_STEW_LINKED").unwrap_or_default();
+    let mut missing = env::var("DEP_STEW_MISSING").unwrap_or_default();
+
     let folder = folder();
-    let missing = missing(&folder);
+    let is_ours = |name: &&str| !linked.split(' ').any(|linked| linked == *name);
+    let archives: Vec<&str> = ARCHIVES.lines().filter(is_ours).collect();
+    for name in &archives {
+        if is_missing(&folder, name) {
+            missing = format!("{} {}", missing, name);
+        }
+    }
     if missing.is_empty() {
-        link(&folder);
+        link(&folder, &archives);
         println!("cargo:rustc-cfg=stew_archive");
     }
-    println!("cargo:rustc-env=STEW_MISSING={}", missing.join(" "));
+    println!("cargo:rustc-env=STEW_MISSING={}", missing.trim());
 }
 
 fn folder() -> PathBuf {
@@ -34,19 +45,16 @@ fn folder() -> PathBuf {
     env::var_os("STEW_ARCHIVES").map_or(built, PathBuf::from)
 }
 
-/// The archives that are not in the folder. Each is watched.
-fn missing(folder: &Path) -> Vec<&'static str> {
-    let is_missing = |name: &&str| {
-        let archive = folder.join(format!("lib{}.a", name));
-        println!("cargo:rerun-if-changed={}", archive.display());
-        !archive.is_file()
-    };
-    ARCHIVES.lines().filter(is_missing).collect()
+/// Whether an archive is not in the folder. It is watched.
+fn is_missing(folder: &Path, name: &str) -> bool {
+    let archive = folder.join(format!("lib{}.a", name));
+    println!("cargo:rerun-if-changed={}", archive.display());
+    !archive.is_file()
 }
 
-fn link(folder: &Path) {
+fn link(folder: &Path, archives: &[&str]) {
     println!("cargo:rustc-link-search=native={}", folder.display());
-    for name in ARCHIVES.lines() {
+    for name in archives {
         println!("cargo:rustc-link-lib=static={}", name);
     }
 }

@@ -1,4 +1,4 @@
-//! The C names of the proved library.
+//! The C names of the proved library. The two for the compile tool are those of `stew`.
 //!
 //! A slice crosses as a pointer and a length: `&[u8]` is `*const u8, usize` here, `&mut [u8]` is
 //! `*mut u8, usize`, each pair where the slice stands among the parameters. Numbers and truth
@@ -10,6 +10,8 @@
 use crate::place::Place;
 use crate::start::Start;
 use oracle::reading::Scanner;
+
+pub use stew::c::raw_write;
 
 extern "C" {
     fn stew_place(line: u16, column: u16, answer: *mut u8, answer_room: usize) -> u32;
@@ -95,15 +97,6 @@ extern "C" {
         column: u16,
         terminator: u32,
         limit: usize,
-        out: *mut u8,
-        room: usize,
-        answer: *mut u8,
-        answer_room: usize,
-    ) -> u32;
-
-    fn stew_raw_write(
-        body: *const u8,
-        length: usize,
         out: *mut u8,
         room: usize,
         answer: *mut u8,
@@ -251,19 +244,6 @@ pub fn scan_literal(
                 text, length, at, line, column, terminator, limit, out, room, row, row_room,
             )
         },
-    }
-}
-
-pub fn raw_write(body: &[u8], out: &mut [u8], answer: &mut [u8]) -> u32 {
-    unsafe {
-        stew_raw_write(
-            body.as_ptr(),
-            body.len(),
-            out.as_mut_ptr(),
-            out.len(),
-            answer.as_mut_ptr(),
-            answer.len(),
-        )
     }
 }
 

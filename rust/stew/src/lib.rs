@@ -1,0 +1,153 @@
+//! The proved tokenizer for Rust programs: the run over a script, and the raw writer.
+//!
+//! Everything is lent by the caller, and nothing is kept. Where the archives of the proved library
+//! were not found, this crate is empty (see `build.rs`).
+#![cfg(stew_archive)]
+
+pub mod c;
+
+use std::ops::Range;
+
+/// How many bytes of `entries` a token takes.
+pub const ENTRY: usize = 20;
+
+/// Column 0 is before a line's first character.
+#[derive(Debug, Clone, Copy, PartialEq, Eq)]
+pub struct Place {
+    pub line: u16,
+    pub column: u16,
+}
+
+#[derive(Debug, Clone, Copy, PartialEq, Eq)]
+pub enum Kind {
+    Name,
+    Keyword,
+    Symbol,
+    Number,
+    String,
+    /// A piece of text that `${` ends.
+    Interpolated,
+    /// A piece of text that its backtick ends.
+    Text,
+    Raw,
+    Char,
+    Comment,
+    Reserved,
+}
+
+use Kind::*;
+
+/// By their numbers, from 1 on.
+#[rustfmt::skip]
+const KINDS: [Kind; 11] = [
+    Name, Keyword, Symbol, Number, String, Interpolated, Text, Raw, Char, Comment, Reserved,
+];
+
+#[derive(Debug, Clone, PartialEq, Eq)]
+pub struct Token {
+    pub kind: Kind,
+    pub place: Place,
+    /// Its bytes: among the run's literals where it is one, else in the script.
+    pub part: Range<usize>,
+}
+
+#[derive(Debug, Clone, PartialEq, Eq)]
+pub enum Ending {
+    End(Place),
+    Stop(Fault),
+}
+
+#[derive(Debug, Clone, PartialEq, Eq)]
+pub struct Fault {
+    /// The refusal's number in document 01.
+    pub number: u32,
+    pub place: Place,
+    /// The bytes of the script that the fault is about, if it is about some.
+    pub part: Option<Range<usize>>,
+}
+
+/// What a run left in the memory that it was lent.
+#[derive(Debug, Clone, PartialEq, Eq)]
+pub struct Run<'a> {
+    pub ending: Ending,
+    /// The bytes of the literals, one behind the other.
+    pub literals: &'a [u8],
+    entries: &'a [u8],
+}
+
+impl<'a> Run<'a> {
+    /// The tokens before the ending.
+    pub fn tokens(&self) -> impl ExactSizeIterator<Item = Token> + 'a {
+        self.entries.chunks_exact(ENTRY).map(|entry| {
+            let [kind, line, column, offset, length] = numbers(entry);
+            Token {
+                kind: KINDS[kind as usize - 1],
+                place: place(line, column),
+                part: range(offset, length),
+            }
+        })
+    }
+
+    /// A token's bytes, of a run over this script.
+    pub fn bytes(&self, token: &Token, script: &'a [u8]) -> &'a [u8] {
+        let part = token.part.clone();
+        match token.kind {
+            String | Interpolated | Text | Raw | Char => &self.literals[part],
+            _ => &script[part],
+        }
+    }
+}
+
+/// Lists the tokens of a script. A limit of 0 is none.
+pub fn run<'a>(
+    script: &[u8],
+    book: &[u8],
+    limit: u64,
+    literals: &'a mut [u8],
+    entries: &'a mut [u8],
+) -> Run<'a> {
+    let mut answer = [0; 28];
+    c::run(script, book, limit, literals, entries, &mut answer);
+    let [number, line, column, listed, used, offset, length] = numbers(&answer);
+    let place = place(line, column);
+    let part = (length > 0).then(|| range(offset, length));
+    Run {
+        ending: match number {
+            0 => Ending::End(place),
+            number => Ending::Stop(Fault {
+                number,
+                place,
+                part,
+            }),
+        },
+        literals: &literals[..used as usize],
+        entries: &entries[..ENTRY * listed as usize],
+    }
+}
+
+/// Writes the raw literal of a body, and answers its bytes; or the refusal's number in document 01.
+pub fn raw_write<'a>(body: &[u8], out: &'a mut [u8]) -> Result<&'a [u8], u32> {
+    let mut answer = [0; 4];
+    match c::raw_write(body, out, &mut answer) {
+        0 => Ok(&out[..u32::from_le_bytes(answer) as usize]),
+        number => Err(number),
+    }
+}
+
+/// Numbers as they cross: little endian, four bytes each.
+fn numbers<const N: usize>(bytes: &[u8]) -> [u32; N] {
+    std::array::from_fn(|n| {
+        let number = [0, 1, 2, 3].map(|at| bytes[4 * n + at]);
+        u32::from_le_bytes(number)
+    })
+}
+
+/// No line and no column passes 65,535.
+fn place(line: u32, column: u32) -> Place {
+    let [line, column] = [line, column].map(|number| number as u16);
+    Place { line, column }
+}
+
+fn range(offset: u32, length: u32) -> Range<usize> {
+    offset as usize..(offset + length) as usize
+}
