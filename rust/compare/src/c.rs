@@ -11,7 +11,7 @@ use crate::place::Place;
 use crate::start::Start;
 use oracle::reading::Scanner;
 
-pub use stew::c::raw_write;
+pub use stew::c::{raw_write, run};
 
 extern "C" {
     fn stew_place(line: u16, column: u16, answer: *mut u8, answer_room: usize) -> u32;

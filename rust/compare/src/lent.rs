@@ -33,6 +33,11 @@ impl Lent {
         Bytes(&self.bytes)
     }
 
+    /// The same, shown as numbers.
+    pub fn numbers(&self) -> Numbers<'_> {
+        Numbers(&self.bytes)
+    }
+
     pub fn is_as_lent(&self) -> bool {
         self.bytes.iter().all(|&byte| byte == AS_LENT)
     }
@@ -45,6 +50,18 @@ pub struct Bytes<'a>(&'a [u8]);
 impl fmt::Debug for Bytes<'_> {
     fn fmt(&self, f: &mut fmt::Formatter<'_>) -> fmt::Result {
         write!(f, "b\"{}\"", self.0.escape_ascii())
+    }
+}
+
+/// Bytes that are shown as numbers, little endian, four bytes each.
+#[derive(Clone, Copy, PartialEq, Eq)]
+pub struct Numbers<'a>(&'a [u8]);
+
+impl fmt::Debug for Numbers<'_> {
+    fn fmt(&self, f: &mut fmt::Formatter<'_>) -> fmt::Result {
+        f.debug_list()
+            .entries(self.0.chunks(4).map(number))
+            .finish()
     }
 }
 

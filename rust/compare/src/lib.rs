@@ -18,6 +18,11 @@ pub mod random;
 #[cfg(all(rhai_source, stew_archive))]
 pub mod raw;
 pub mod report;
+#[cfg(all(rhai_source, stew_archive))]
+pub mod run;
+#[cfg(all(rhai_source, stew_archive))]
+pub mod runs;
+pub mod scripts;
 pub mod size;
 pub mod start;
 #[cfg(all(rhai_source, stew_archive))]
@@ -40,6 +45,7 @@ pub fn compare(size: size::Size) -> report::Report {
         raw::run,
         string::run,
         writer::run,
+        run::run,
     ] {
         subject(&mut report, size);
     }

@@ -73,7 +73,7 @@ impl<'a> Start<'a> {
 
 /// Short texts. The last six are no UTF-8: no first byte, no last byte, a byte too many for the
 /// character, a surrogate, a number above 10FFFF, and a byte that is in no character.
-const TEXTS: [&[u8]; 10] = [
+pub const TEXTS: [&[u8]; 10] = [
     b"",
     b"a",
     b"\xc3\xa9",
