@@ -91,10 +91,10 @@ fn near<'a>(words: impl Iterator<Item = &'a str>) -> BTreeSet<String> {
     texts
 }
 
-/// Every text of up to three printable ASCII characters.
+/// Every text of up to two printable ASCII characters.
 fn short_texts() -> BTreeSet<String> {
     let mut texts = BTreeSet::from([String::new()]);
-    for _ in 0..3 {
+    for _ in 0..2 {
         let longer = |text: &String| {
             let text = text.clone();
             (' '..='~').map(move |last| format!("{}{}", text, last))
