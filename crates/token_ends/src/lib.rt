@@ -16,8 +16,8 @@ pub enum Recorded {
     Refused(u8),
 }
 
-// Records a token that ends at a place: a comment and the end of input leave the last end alone. On line 0, where the Rust
-// panics or moves NONE, it is 3.
+// Records a token that ends at a place: a comment and the end of input leave the last end alone. On line 0 it is 3, as every
+// move is.
 pub fn record_token(ends: TokenEnds, token: u8, pos: Position) -> Recorded
     ensures { λ r. ⌜ r ≡ recordTokenOf ends token pos ⌝ }
 {
