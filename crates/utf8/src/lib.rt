@@ -60,8 +60,8 @@ fn sized(text: &[u8], at: usize, n: usize, first: u32, least: u32) -> Look
     Look::End
 }
 
-// The character at an offset whose byte, a, is above 7F: Table 3-6 read backwards.
-fn longer(text: &[u8], at: usize, a: u32) -> Look
+// Inner: the character at an offset whose byte, a, is above 7F: Table 3-6 read backwards. It has two callers, so that the compiler keeps it apart and `look_at` small.
+pub fn longer(text: &[u8], at: usize, a: u32) -> Look
     requires { ⌜ (at < length (now text)) × (0x80 ≤ a) ⌝ }
     ensures { λ r. ⌜ r ≡ look (a ∷ drop (at + 1) (now (text .entry))) ⌝ }
 {
