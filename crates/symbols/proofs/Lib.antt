@@ -1,3 +1,4 @@
 pub mod Standing
 pub mod Longer
+pub mod Sizes
 pub mod Examples

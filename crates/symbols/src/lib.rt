@@ -6,7 +6,8 @@ ghost use lib.ListN.{getD};
 ghost use Rattle.classes.specs.Class.{isIdContinue};
 ghost use Rattle.token.specs.Keywords.{entryAt};
 ghost use Rattle.token.specs.Table.{table};
-ghost use Rattle.symbols.specs.Symbols.{isSymbol, standing, longer, longestOf, longestSymbolOf};
+ghost use Rattle.symbols.specs.Symbols.{isSymbol, standing, longestOf, longestSymbolOf};
+ghost use Rattle.symbols.specs.Sizes.{sizeOf};
 use token::tokens::*;
 
 // A symbol's token and its length in bytes, or nothing.
@@ -25,10 +26,10 @@ fn goes_on(text: &[u8], at: usize) -> bool
     false
 }
 
-// A place's symbol, where it stands at the front of a text.
-fn standing_at(words: &[u8], k: usize, text: &[u8]) -> Longest
+// The length of a place's symbol, where it stands at the front of a text; else 0.
+fn standing_at(words: &[u8], k: usize, text: &[u8]) -> usize
     requires { ⌜ (now words ≡ table) × (k < 153) × (isSymbol (entryAt k .text) ≡ true) ⌝ }
-    ensures { λ r. ⌜ r ≡ standing (now (text .entry)) (entryAt k) ⌝ }
+    ensures { λ r. ⌜ r ≡ sizeOf (standing (now (text .entry)) (entryAt k)) ⌝ }
 {
     let place = word_table::place_at(words, k);
     let from = place.from;
@@ -39,32 +40,17 @@ fn standing_at(words: &[u8], k: usize, text: &[u8]) -> Longest
         let n = word.len();
         if token == NOT_IN {
             if goes_on(text, n) {
-                return Longest::Nothing;
+                return 0;
             }
-            return Longest::Symbol(token, n);
+            return n;
         }
-        return Longest::Symbol(token, n);
+        return n;
     }
-    Longest::Nothing
+    0
 }
 
-// The longer of two symbols.
-fn longer_of(a: Longest, b: Longest) -> Longest
-    ensures { λ r. ⌜ r ≡ longer a b ⌝ }
-{
-    let Longest::Symbol(_, n) = a else {
-        return b;
-    };
-    let Longest::Symbol(_, m) = b else {
-        return a;
-    };
-    if n < m {
-        return b;
-    }
-    a
-}
-
-// Inner: the longest symbol at the front of a text, by a copy of `words()` that the caller lends.
+// Inner: the longest symbol at the front of a text, by a copy of `words()` that the caller lends. The longest so far is a token and
+// a length, which the machine carries faster than the enum.
 pub fn longest_in(words: &[u8], text: &[u8]) -> Longest
     requires { ⌜ now words ≡ table ⌝ }
     ensures { λ r. ⌜ r ≡ longestOf (now (text .entry)) ⌝ }
@@ -76,13 +62,22 @@ pub fn longest_in(words: &[u8], text: &[u8]) -> Longest
     if classes::is_id_first_alphabetic(first as u32) {
         return Longest::Nothing;
     }
-    let mut best = Longest::Nothing;
+    let mut token = 0;
+    let mut n = 0;
     let mut k = word_table::first_place(words, first);
     while k < 153 {
-        best = longer_of(best, standing_at(words, k, text));
-        k = word_table::place_at(words, k).next;
+        let m = standing_at(words, k, text);
+        let place = word_table::place_at(words, k);
+        k = place.next;
+        if n < m {
+            n = m;
+            token = place.token;
+        }
     }
-    best
+    if n == 0 {
+        return Longest::Nothing;
+    }
+    Longest::Symbol(token, n)
 }
 
 // The longest listed symbol at an offset, `!in` only if no identifier goes on there.

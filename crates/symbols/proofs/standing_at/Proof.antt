@@ -2,6 +2,7 @@
 use Rattle.token.proofs.Places.{place-token, place-order, place-end, place-text}
 use borrow.Author.Needs.{needs}
 use Rattle.symbols.proofs.Standing.{stands-not, stands-plain, stands-alone, goes-on-there}
+use Rattle.symbols.proofs.Sizes.{size-nothing, size-symbol}
 use Rattle.symbols.proofs.standing_at.Statement.{statement}
 use Rattle.symbols.proofs.standing_at.Tie as tie
 
@@ -21,8 +22,8 @@ returns c =
     let read = call .before .before in
     let start = read .before .before .before in
     let place = read .place-at .ensures in
-    goes-on-there _ _ (start .pre .2) _ (place-text _ (start .pre .0) _ (start .pre .1) _ place) _ (call .starts-with .ensures) (test .before .if1 .taken) _
-    (place-token _ (start .pre .0) _ (start .pre .1) _ place) (test .if2 .taken) _ (c .before .goes-on .ensures) (c .if3 .taken)
+    size-nothing (goes-on-there _ _ (start .pre .2) _ (place-text _ (start .pre .0) _ (start .pre .1) _ place) _ (call .starts-with .ensures) (test .before .if1 .taken) _
+    (place-token _ (start .pre .0) _ (start .pre .1) _ place) (test .if2 .taken) _ (c .before .goes-on .ensures) (c .if3 .taken))
 
 returns-2 : tie.Need-returns-2
 returns-2 c =
@@ -31,8 +32,8 @@ returns-2 c =
     let read = call .before .before in
     let start = read .before .before .before in
     let place = read .place-at .ensures in
-    stands-alone _ _ (start .pre .2) _ (place-text _ (start .pre .0) _ (start .pre .1) _ place) _ (call .starts-with .ensures) (test .before .if1 .taken) _
-    (place-token _ (start .pre .0) _ (start .pre .1) _ place) (test .if2 .taken) _ (c .before .goes-on .ensures) (c .if3 .left)
+    size-symbol (stands-alone _ _ (start .pre .2) _ (place-text _ (start .pre .0) _ (start .pre .1) _ place) _ (call .starts-with .ensures) (test .before .if1 .taken) _
+    (place-token _ (start .pre .0) _ (start .pre .1) _ place) (test .if2 .taken) _ (c .before .goes-on .ensures) (c .if3 .left))
 
 returns-3 : tie.Need-returns-3
 returns-3 c =
@@ -40,15 +41,15 @@ returns-3 c =
     let read = call .before .before in
     let start = read .before .before .before in
     let place = read .place-at .ensures in
-    stands-plain _ _ (start .pre .2) _ (place-text _ (start .pre .0) _ (start .pre .1) _ place) _ (call .starts-with .ensures) (c .before .if1 .taken) _
-    (place-token _ (start .pre .0) _ (start .pre .1) _ place) (c .if2 .left)
+    size-symbol (stands-plain _ _ (start .pre .2) _ (place-text _ (start .pre .0) _ (start .pre .1) _ place) _ (call .starts-with .ensures) (c .before .if1 .taken) _
+    (place-token _ (start .pre .0) _ (start .pre .1) _ place) (c .if2 .left))
 
 returns-4 : tie.Need-returns-4
 returns-4 c =
     let call = c .before in
     let read = call .before .before in
     let start = read .before .before .before in
-    stands-not _ _ (start .pre .2) _ (place-text _ (start .pre .0) _ (start .pre .1) _ (read .place-at .ensures)) _ (call .starts-with .ensures) (c .if1 .left)
+    size-nothing (stands-not _ _ (start .pre .2) _ (place-text _ (start .pre .0) _ (start .pre .1) _ (read .place-at .ensures)) _ (call .starts-with .ensures) (c .if1 .left))
 
 pub standing-at-spec : {M : Type 1} → statement M
 standing-at-spec =
