@@ -1,2 +1,3 @@
 pub mod Begins
 pub mod Ahead
+pub mod Skips

@@ -21,6 +21,7 @@ ghost use Rattle.find.specs.Find.{
   beginsOf,
   findOf,
 };
+ghost use Rattle.find.specs.Skip.{skipOf};
 use chars::cursor::Cursor;
 use fault::Fault;
 use fault::Part;
@@ -228,6 +229,31 @@ fn white(c: u32, next: Cursor) -> Found
         return Found::White(Cursor { at, place });
     }
     Found::White(next)
+}
+
+// Inner: behind the ASCII white space that follows a cursor; only LF starts a line.
+pub fn skip(text: &[u8], from: Cursor) -> Cursor
+    ensures { λ r. ⌜ r ≡ skipOf (now (text .entry)) from ⌝ }
+{
+    let mut at = from.at;
+    let mut place = from.place;
+    loop {
+        let Look::Char(c, width) = utf8::look_at(text, at) else {
+            return Cursor { at, place };
+        };
+        if 0x80 <= c {
+            return Cursor { at, place };
+        }
+        if white::is_white(c) {
+            at += width;
+            place = place.advanced();
+            if c == LF {
+                place = place.lined();
+            }
+        } else {
+            return Cursor { at, place };
+        }
+    }
 }
 
 // Inner: what begins behind a cursor, for a run, which has checked its text and its book and holds the words.

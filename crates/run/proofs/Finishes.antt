@@ -2,21 +2,27 @@
 use Prim.Native.Nat.{ℕ, suc, _+_, _≤_, _<_}
 use native.Mathlib.Omega.{arith}
 use native.Mathlib.Nat.{zero-add, add-zero, add-assoc}
+use mathlib.Core.Bool.{false}
 use mathlib.Core.List.{List, [], _∷_, _++_}
-use mathlib.Core.Path.{_≡_, refl, sym, ap, _∙_}
+use mathlib.Core.Path.{_≡_, refl, sym, ap, subst, _∙_}
 use lib.Dec.{ltb}
 use lib.ListN.{length, length-append}
 use lib.Seq.{sets, length-sets}
 use Rattle.basis.specs.Store.{over}
 use Rattle.basis.proofs.Stores.{sets-append, sets-front}
 use Rattle.reading.specs.Reading.{Left, ended, more}
-use Rattle.reading.specs.CutRun.{Bounds}
+use Rattle.reading.specs.CutRun.{Bounds, cutRun}
 use Rattle.reading.specs.Entries.{laidOut}
 use Rattle.reading.specs.declared.Entry.{Entry}
 use Rattle.reading.specs.declared.Ending.{Ending}
 use Rattle.script.specs.Steps.{stepOf}
 use Rattle.script.specs.declared.State.{State}
-use Rattle.run_turn.specs.Turns.{within, turnOf, keptOf, bytesOf}
+use Rattle.script.specs.declared.Passed.{Passed}
+use Rattle.script.specs.States.{state, movedTo, behindOf, Fine, Fits}
+use Rattle.script.specs.Counts.{passedOf}
+use Rattle.script.specs.Skips.{skipped}
+use Rattle.script.proofs.Skips.{skips, skipped-moved, skipped-behind, skipped-fits}
+use Rattle.run_turn.specs.Turns.{within, Went, went, turnOf, keptOf, bytesOf, ledBy, led, Leads}
 use Rattle.run_turn.specs.declared.Next.{Next}
 use Rattle.run_turn.specs.declared.Next.the-variants.{On, Listed, Over}
 use Rattle.run_turn.specs.declared.Turned.{Turned}
@@ -72,53 +78,88 @@ module _ (index : ℕ → ℕ) (laid : Entry → List ℕ) (t book : List ℕ) (
     pub entries : length es ≡ length es₀
     pub same : finish index laid es ls n used (left t book b s n used) ≡ finish index laid es₀ ls₀ 0 0 (left t book b s₀ 0 0)
 
-  module _ (small : length t ≤ 16777216) {es₀ ls₀ : List ℕ} {s₀ s : State} {n used : ℕ} {es ls : List ℕ} (run : Running es₀ ls₀ s₀ s n used es ls) {r : Turned} {ls′ : List ℕ}
-      (told : r ≡ turnOf (within (b .limit) (length ls)) (ltb n (b .entries)) used s (stepOf t book s))
-      (kept : ls′ ≡ keptOf (within (b .limit) (length ls)) (ltb n (b .entries)) used (stepOf t book s) ls) where
-    after : After t book b s n used ls ls′ r (r .next)
-    after = turn-after t book b s n used small (run .stands) ls r ls′ (told ∙ ap (λ (m : ℕ). turnOf (within (b .limit) m) (ltb n (b .entries)) used s (stepOf t book s)) (run .room))
-        (kept ∙ ap (λ (m : ℕ). keptOf (within (b .limit) m) (ltb n (b .entries)) used (stepOf t book s) ls) (run .room))
+  -- behind the white space that is skipped a run stands as well, and nothing else is left
+  skipped-stands : length t ≤ 16777216 → {s : State} {n used : ℕ} → Stands t b s n used → Stands t b (skipped t s) n used
+  skipped-stands small {s} stands =
+      let k = skips t book s in record {
+        fine = k .fine (stands .within) small (stands .fine);
+        within = k .within (stands .within);
+        room = stands .room;
+        few = omega (arith, k .forward, stands .few);
+        short = omega (arith, k .forward, stands .short);
+        free = stands .free;
+      }
+
+  -- what is known behind a turn that leads there, from behind the white space
+  abbrev After-turn : State → ℕ → ℕ → List ℕ → List ℕ → Went → Type 0
+  After-turn s n used ls ls′ w = After t book b (skipped t s) n used ls ls′ w (w .next)
+
+  module _ (small : length t ≤ 16777216) {es₀ ls₀ : List ℕ} {s₀ s : State} {n used : ℕ} {es ls : List ℕ} (run : Running es₀ ls₀ s₀ s n used es ls) (r : Turned) {ls′ : List ℕ}
+      (told : Leads (skipped t s) r (turnOf (within (b .limit) (length ls)) (ltb n (b .entries)) used (skipped t s) (stepOf t book (skipped t s))))
+      (kept : ls′ ≡ keptOf (within (b .limit) (length ls)) (ltb n (b .entries)) used (stepOf t book (skipped t s)) ls) where
+    after : After-turn s n used ls ls′ (led (skipped t s) r)
+    after = turn-after t book b (skipped t s) n used small (skipped-stands small (run .stands)) ls (led (skipped t s) r) ls′ (told .0 ∙ ap (λ (m : ℕ). turnOf (within (b .limit) m) (ltb n (b .entries)) used (skipped t s) (stepOf t book (skipped t s))) (run .room))
+        (kept ∙ ap (λ (m : ℕ). keptOf (within (b .limit) m) (ltb n (b .entries)) used (stepOf t book (skipped t s)) ls) (run .room))
+
+    -- by what the turn came to
+    after-next : {next : Next} → r .next ≡ next → After-turn s n used ls ls′ (ledBy (skipped t s) (passedOf (r .piece) (r .token)) (r .to) (r .used) next)
+    after-next q = subst (After-turn s n used ls ls′) (ap (ledBy (skipped t s) (passedOf (r .piece) (r .token)) (r .to) (r .used)) q) after
+
+    -- what is left here is left behind the white space
+    left-skipped : left t book b s n used ≡ left t book b (skipped t s) n used
+    left-skipped = ap (cutRun b n used) (skips t book s .reads)
+
+    -- the state's own method may be called
+    pub run-fine : {what : Passed} → what ≡ passedOf (r .piece) (r .token) → Fine s × Fits what s
+    run-fine d = (run .stands .fine, rw d (skipped-fits t s (passedOf (r .piece) (r .token)) (told .1)))
 
     -- a turn that lists nothing
-    pub run-on : r .next ≡ On → (s .cursor .at < r .state .cursor .at) × Running es₀ ls₀ s₀ (r .state) n (r .used) es ls′
-    run-on q =
-        let a : After t book b s n used ls ls′ r On = rw q at after in (
-          a .0,
+    pub run-on : r .next ≡ On → (s .cursor .at < r .to .at) × Running es₀ ls₀ s₀ (state (r .to) (s .level) (s .braces) false) n used es ls′
+    run-on q = rw (skipped-moved t s (r .to)) at (on (after-next q))
+      where
+        on : After t book b (skipped t s) n used ls ls′ (went (movedTo (r .to) (skipped t s)) (r .used) On) On → (s .cursor .at < movedTo (r .to) (skipped t s) .cursor .at) × Running es₀ ls₀ s₀ (movedTo (r .to) (skipped t s)) n used es ls′
+        on (f, m, l, u, k) = (
+          omega (arith, f, skips t book s .forward),
           record {
-            stands = a .1;
-            room = rw (a .4) (run .room);
+            stands = rw u at m;
+            room = rw k (run .room);
             entries = run .entries;
-            same = ap (finish index laid es ls′ n (r .used)) (sym (a .2)) ∙ rw (a .3, a .4) (run .same);
+            same = ap (finish index laid es ls′ n used) (sym (left-skipped ∙ l ∙ ap (left t book b (movedTo (r .to) (skipped t s)) n) u)) ∙ rw k (run .same);
           },
         )
 
     -- a turn that lists an entry, which is laid out behind those before
     pub run-listed : (e : Entry) → r .next ≡ Listed e → Small e × (n < b .entries)
-    run-listed e q = let a : After t book b s n used ls ls′ r (Listed e) = rw q at after in (a .3, a .4)
+    run-listed e q = let a = after-next q in (a .3, a .4)
 
-    pub run-more : (e : Entry) → r .next ≡ Listed e → index n + length (laid e) ≡ index (n + 1) → (es′ : List ℕ) → es′ ≡ sets es (index n) (laid e)
-        → (s .cursor .at < r .state .cursor .at) × Running es₀ ls₀ s₀ (r .state) (n + 1) (r .used) es′ ls′
-    run-more e q h es′ p =
-        let a : After t book b s n used ls ls′ r (Listed e) = rw q at after in (
-          a .0,
-          record {
-            stands = a .1;
-            room = rw (a .6, length-sets ls used (bytesOf (stepOf t book s))) (run .room);
-            entries = rw (p, length-sets es (index n) (laid e)) (run .entries);
-            same = stored (a .5) (a .6) (left t book b (r .state) (n + 1) (r .used)) ∙ sym (finish-more index laid es ls n used e bs _ h) ∙ ap (finish index laid es ls n used) (sym (a .2)) ∙ run .same;
-          },
-        )
+    pub run-more : (e : Entry) → r .next ≡ Listed e → index n + length (laid e) ≡ index (n + 1) → (es′ : List ℕ) → es′ ≡ sets es (index n) (laid e) → (what : Passed) → what ≡ passedOf (r .piece) (r .token) → (s′ : State) → s′ ≡ behindOf what (r .to) s
+        → (s .cursor .at < s′ .cursor .at) × Running es₀ ls₀ s₀ s′ (n + 1) (r .used) es′ ls′
+    run-more e q h es′ p what g s′ d = rw (d, g, ← skipped-behind t s (passedOf (r .piece) (r .token)) (r .to)) (more-so (after-next q))
       where
         bs : List ℕ
-        bs = bytesOf (stepOf t book s)
+        bs = bytesOf (stepOf t book (skipped t s))
+
+        next : State
+        next = behindOf (passedOf (r .piece) (r .token)) (r .to) (skipped t s)
 
         stored : r .used ≡ used + length bs → ls′ ≡ sets ls used bs → (l : Left)
             → finish index laid es′ ls′ (n + 1) (r .used) l ≡ finish index laid (sets es (index n) (laid e)) (sets ls used bs) (n + 1) (used + length bs) l
         stored u k l = rw (p, k, u)
 
+        more-so : After t book b (skipped t s) n used ls ls′ (went next (r .used) (Listed e)) (Listed e) → (s .cursor .at < next .cursor .at) × Running es₀ ls₀ s₀ next (n + 1) (r .used) es′ ls′
+        more-so (f, m, l, z, g, u, k) = (
+          omega (arith, f, skips t book s .forward),
+          record {
+            stands = m;
+            room = rw (k, length-sets ls used bs) (run .room);
+            entries = rw (p, length-sets es (index n) (laid e)) (run .entries);
+            same = stored u k (left t book b next (n + 1) (r .used)) ∙ sym (finish-more index laid es ls n used e bs _ h) ∙ ap (finish index laid es ls n used) (sym (left-skipped ∙ l)) ∙ run .same;
+          },
+        )
+
     -- a turn that is over
     pub run-over : (e : Ending) → r .next ≡ Over e
         → record { ending = e; listed = n; used = used; entries = es; literals = ls′ } ≡ finish index laid es₀ ls₀ 0 0 (left t book b s₀ 0 0)
     run-over e q =
-        let a : After t book b s n used ls ls′ r (Over e) = rw q at after in
-        sym (rw (a .1) (finish-over index laid es ls n used e)) ∙ ap (finish index laid es ls n used) (sym (a .0)) ∙ run .same
+        let a = after-next q in
+        sym (rw (a .1) (finish-over index laid es ls n used e)) ∙ ap (finish index laid es ls n used) (sym (left-skipped ∙ a .0)) ∙ run .same

@@ -11,13 +11,13 @@ ghost use Rattle.reading.specs.CutRun.{cutRun};
 ghost use Rattle.script.specs.Script.{scriptOf};
 ghost use Rattle.script.specs.States.{begun};
 ghost use Rattle.run.specs.Run.{boundsOf, runOf, ranOf, literalsOf, entriesOf};
-use chars::cursor::Cursor;
 use fault::Fault;
 use fault::Part;
 use position::Position;
 use reading::Ending;
 use reading::Entry;
 use run_turn::Next;
+use script::Passed;
 use script::State;
 
 // How a run ended, how many entries it listed, and how many literal bytes it used.
@@ -56,39 +56,41 @@ fn tokens(
     ensures { λ r. ⌜ now (entries .exit) ≡ entriesOf numbersOf (cutRun (boundsOf 5 limit (length (now (literals .entry))) (length (now (entries .entry)))) 0 0 (scriptOf (now (script .entry)) (now (book .entry)))) (now (entries .entry)) ⌝ }
 {
     let room = entries.len() / 5;
-    let mut s = State {
-        cursor: Cursor {
-            at: 0,
-            place: Position::START,
-        },
-        level: 0,
-        braces: [0; 16],
-        due: false,
-    };
+    let mut s = State::begun();
     let mut listed = 0;
     let mut used = 0;
     loop {
+        let cursor = s.cursor;
         let turned = run_turn::turn(
             words,
             book,
             script,
-            s,
+            cursor,
+            s.level,
+            s.due,
             limit,
             listed < room,
             used,
             &mut *literals,
         );
+        let to = turned.to;
         let next = turned.next;
         match next {
             Next::On => {
-                s = turned.state;
-                used = turned.used;
+                s.cursor = to;
+                s.due = false;
             }
             Next::Listed(entry) => {
                 store(entry, listed, &mut *entries);
                 listed += 1;
-                s = turned.state;
                 used = turned.used;
+                let passed = Passed::given(turned.piece, turned.token);
+                if passed.counts(s.level) {
+                    s = s.behind(passed, to);
+                } else {
+                    s.cursor = to;
+                    s.due = false;
+                }
             }
             Next::Over(ending) => {
                 return Ran {

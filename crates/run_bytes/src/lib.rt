@@ -10,7 +10,6 @@ ghost use Rattle.reading.specs.CutRun.{cutRun};
 ghost use Rattle.script.specs.Script.{scriptOf};
 ghost use Rattle.run.specs.Run.{boundsOf, runOf, ranOf, literalsOf, entriesOf};
 ghost use Rattle.run_bytes.specs.Bytes.{bytesOf};
-use chars::cursor::Cursor;
 use fault::Fault;
 use fault::Part;
 use position::Position;
@@ -18,6 +17,7 @@ use reading::Ending;
 use reading::Entry;
 use run::Ran;
 use run_turn::Next;
+use script::Passed;
 use script::State;
 
 // Puts an entry in as the n-th.
@@ -52,39 +52,41 @@ fn tokens(
     ensures { λ r. ⌜ now (entries .exit) ≡ entriesOf bytesOf (cutRun (boundsOf 20 limit (length (now (literals .entry))) (length (now (entries .entry)))) 0 0 (scriptOf (now (script .entry)) (now (book .entry)))) (now (entries .entry)) ⌝ }
 {
     let room = entries.len() / 20;
-    let mut s = State {
-        cursor: Cursor {
-            at: 0,
-            place: Position::START,
-        },
-        level: 0,
-        braces: [0; 16],
-        due: false,
-    };
+    let mut s = State::begun();
     let mut listed = 0;
     let mut used = 0;
     loop {
+        let cursor = s.cursor;
         let turned = run_turn::turn(
             words,
             book,
             script,
-            s,
+            cursor,
+            s.level,
+            s.due,
             limit,
             listed < room,
             used,
             &mut *literals,
         );
+        let to = turned.to;
         let next = turned.next;
         match next {
             Next::On => {
-                s = turned.state;
-                used = turned.used;
+                s.cursor = to;
+                s.due = false;
             }
             Next::Listed(entry) => {
                 store(entry, listed, &mut *entries);
                 listed += 1;
-                s = turned.state;
                 used = turned.used;
+                let passed = Passed::given(turned.piece, turned.token);
+                if passed.counts(s.level) {
+                    s = s.behind(passed, to);
+                } else {
+                    s.cursor = to;
+                    s.due = false;
+                }
             }
             Next::Over(ending) => {
                 return Ran {

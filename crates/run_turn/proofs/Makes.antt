@@ -22,10 +22,9 @@ use Rattle.script.specs.Script.{scriptFrom}
 use Rattle.script.specs.States.{Fine}
 use Rattle.script.specs.declared.State.{State}
 use Rattle.script.proofs.Ahead.{Ahead, Takes, step-ahead}
-use Rattle.run_turn.specs.Turns.{within, listed, onScan, nextOf, stateOf, bytesOf, turned, turnOf, kept, keptOf}
+use Rattle.run_turn.specs.Turns.{within, listed, onScan, nextOf, stateOf, bytesOf, Went, turned, turnOf, kept, keptOf}
 use Rattle.run_turn.specs.declared.Next.{Next}
 use Rattle.run_turn.specs.declared.Next.the-variants.{On, Listed, Over}
-use Rattle.run_turn.specs.declared.Turned.{Turned}
 use Rattle.run_turn.proofs.Cuts.{Comes, here, turn-comes}
 
 -- between two turns: n entries are listed, one at most for each byte of the script that was passed, and so many literal bytes used, four at most for each
@@ -98,8 +97,8 @@ module _ (t book : List ℕ) (b : Bounds) where
           Makes (stateOf s (stepOf t book s)) (used + length (bytesOf (stepOf t book s))) (bytesOf (stepOf t book s)) (nextOf bounds (ltb n (b .entries)) used (stepOf t book s))
       turn-makes = step-makes (stepOf t book s) (step-ahead t book s (stands .fine) small (stands .within)) (turn-comes b n used t book s (stands .fine) small (stands .within))
 
-    -- what is known behind a turn of the code, which leaves r, and new in the memory that was old
-    abbrev pub After : List ℕ → List ℕ → Turned → Next → Type 0
+    -- what is known behind a turn of the code, which leads to r, and new in the memory that was old
+    abbrev pub After : List ℕ → List ℕ → Went → Next → Type 0
     After old new r On = (s .cursor .at < r .state .cursor .at) × Stands t b (r .state) n (r .used) × (left s n used ≡ left (r .state) n (r .used)) × (r .used ≡ used) × (new ≡ old)
     After old new r (Listed e) =
         (s .cursor .at < r .state .cursor .at)
@@ -115,7 +114,7 @@ module _ (t book : List ℕ) (b : Bounds) where
       abbrev x : Step
       x = stepOf t book s
 
-      pub turn-after : (r : Turned) (new : List ℕ)
+      pub turn-after : (r : Went) (new : List ℕ)
           → r ≡ turnOf (here b n used) (ltb n (b .entries)) used s x → new ≡ keptOf (here b n used) (ltb n (b .entries)) used x old → After old new r (r .next)
       unfolding turnOf keptOf
       turn-after r new p q = rw (p, q) (by (nextOf (here b n used) (ltb n (b .entries)) used x) (turn-makes small stands))

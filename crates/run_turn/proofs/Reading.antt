@@ -25,17 +25,17 @@ use Rattle.reading.specs.Reading.{spoils}
 use Rattle.reading.specs.CutRun as CutRun
 use Rattle.reading.specs.CutRun.{Bounds, full, scanned, cutRun}
 use Rattle.reading.specs.declared.Ending.the-variants.{Stop}
-use Rattle.script.specs.States.{movedTo, interpolated}
+use Rattle.script.specs.States.{movedTo, interpolated, behind, behindOf}
 use Rattle.script.specs.Steps.{Step, on, over, literal, traceOf, wrongOf, faultOf, listedOf, onEnd, literalOf}
 use Rattle.script.specs.declared.State.{State}
-use Rattle.run_turn.specs.Turns.{nextOf, stateOf, bytesOf, turned, turnOf, kept, keptOf, listedAs}
+use Rattle.script.proofs.Ahead.{listed-fits}
+use Rattle.run_turn.specs.Turns.{nextOf, stateOf, bytesOf, Went, went, turned, turnOf, kept, keptOf, Leads, listedAs}
 use Rattle.run_turn.specs.declared.Next.{Next}
 use Rattle.run_turn.specs.declared.Next.the-variants.{On, Listed, Over}
-use Rattle.run_turn.specs.declared.Turned.{Turned}
 
 -- a run that is over
-abbrev pub stopped : State → ℕ → Fault → Turned
-stopped s used f = record { state = s; used = used; next = Over (Stop f) }
+abbrev pub stopped : State → ℕ → Fault → Went
+stopped s used f = went s used (Over (Stop f))
 
 -- what is over changes nothing
 module _ (b : Bounds) (free : Bool) (used : ℕ) (s : State) (x : Step) {f : Fault} (h : nextOf b free used x ≡ Over (Stop f)) where
@@ -88,13 +88,13 @@ module _ (b : Bounds) (free : Bool) (used : ℕ) (t : List ℕ) (k : ℕ) (from 
           ∙ pick-cases (λ (y : Step). nextOf b free used y ≡ Over (Stop (noTokenRoom (from .place)))) (e .interpolated) _ _ (λ i. rw (h, n)) (λ i. rw (h, n))
 
       module _ (y : free ≡ true) where
-        pub listed-turn : turnOf b free used s x ≡ listedAs k e (from .place) m s used
-        unfolding listedOf turnOf nextOf listedAs stateOf bytesOf
-        listed-turn = ap (turnOf b free used s) fine ∙ by (e .interpolated) refl
+        pub listed-leads : Leads s (listedAs k e (from .place) m used) (turnOf b free used s x)
+        unfolding listedOf turnOf nextOf listedAs stateOf bytesOf behind behindOf
+        listed-leads = rw fine (by (e .interpolated) refl)
           where
-            by : (i : Bool) → e .interpolated ≡ i → turnOf b free used s (listedOf k from tr e s) ≡ listedAs k e (from .place) m s used
-            by true i = rw (i, h, y, ← whole .0)
-            by false i = rw (i, h, y, ← whole .0)
+            by : (i : Bool) → e .interpolated ≡ i → Leads s (listedAs k e (from .place) m used) (turnOf b free used s (listedOf k from tr e s))
+            by true i = rw (i, h, y, ← whole .0) (refl, listed-fits k (s .level) e (bytes tr) z i)
+            by false i = rw (i, h, y, ← whole .0) (refl, tt)
 
         pub listed-kept : (old : List ℕ) → keptOf b free used x old ≡ sets old used (bytes tr)
         unfolding listedOf keptOf nextOf bytesOf

@@ -24,14 +24,10 @@ use Rattle.reading.specs.declared.Ending.the-variants.{End, Stop}
 use Rattle.script.specs.States.{movedTo, behind}
 use Rattle.script.specs.Steps.{Step, on, over, nothing, literalOf, partOf, endOf, onFound, stepOf}
 use Rattle.script.specs.declared.State.{State}
-use Rattle.run_turn.specs.Turns.{within, nextOf, stateOf, bytesOf, turnOf, keptOf}
+use Rattle.run_turn.specs.Turns.{within, nextOf, stateOf, bytesOf, Went, went, turnOf, keptOf}
 use Rattle.run_turn.specs.declared.Next.{Next}
 use Rattle.run_turn.specs.declared.Next.the-variants.{On, Listed, Over}
-use Rattle.run_turn.specs.declared.Turned.{Turned}
 use Rattle.run_turn.proofs.Reading.{stopped}
-
-abbrev went : State → ℕ → Next → Turned
-went s used x = record { state = s; used = used; next = x }
 
 module _ (b : Bounds) (free : Bool) (used : ℕ) (s : State) where
   -- ---- a part of the script
@@ -89,7 +85,7 @@ module _ (b : Bounds) (free : Bool) (used : ℕ) (s : State) where
   pub end-any : turnOf (within 0 0) false used s (endOf s) ≡ turnOf b free used s (endOf s)
   unfolding endOf turnOf nextOf cutRun
   end-any =
-      pick-cases (λ (r : Reading). _≡_ {A = Turned} (went s used (Over (cutRun (within 0 0) 0 used r .ending))) (went s used (Over (cutRun b 0 used r .ending)))) (eqb (s .level) 0) _ _
+      pick-cases (λ (r : Reading). _≡_ {A = Went} (went s used (Over (cutRun (within 0 0) 0 used r .ending))) (went s used (Over (cutRun b 0 used r .ending)))) (eqb (s .level) 0) _ _
       (λ y. refl) (λ n. refl)
 
   pub end-kept : (old : List ℕ) → old ≡ keptOf b free used (endOf s) old

@@ -1,7 +1,8 @@
 -- One turn of a run within its bounds: document 01, "9 goes before 12 and 13, these before 10; 10 only for a token read without fault. Entries and literal bytes of earlier tokens stay; beyond them nothing is written".
 use Prim.Native.Nat.{ℕ, _+_}
-use mathlib.Core.Bool.{Bool}
+use mathlib.Core.Bool.{Bool, true, false}
 use mathlib.Core.List.{List, []}
+use mathlib.Core.Path.{_≡_}
 use lib.ListN.{length}
 use lib.Seq.{sets}
 use Rattle.basis.specs.Pick.{pick}
@@ -15,9 +16,13 @@ use Rattle.reading.specs.Reading.{entry}
 use Rattle.reading.specs.CutRun.{Bounds, scanned, cutRun}
 use Rattle.reading.specs.declared.Entry.{Entry}
 use Rattle.reading.specs.declared.Ending.the-variants.{Stop}
-use Rattle.script.specs.States.{movedTo, interpolated}
+use Rattle.chars.specs.declared.cursor.Cursor.{Cursor}
+use Rattle.token.specs.Tokens as Tokens
+use Rattle.script.specs.Counts.{passedOf}
+use Rattle.script.specs.States.{state, movedTo, behindOf, Fits}
 use Rattle.script.specs.Steps.{Step, on, over, nothing, token, literal, packedOf, interpolatedText}
 use Rattle.script.specs.declared.State.{State}
+use Rattle.script.specs.declared.Passed.{Passed}
 use Rattle.run_turn.specs.declared.Next.{Next}
 use Rattle.run_turn.specs.declared.Next.the-variants.{On, Listed, Over}
 use Rattle.run_turn.specs.declared.Turned.{Turned}
@@ -52,14 +57,23 @@ unfoldable pub bytesOf : Step → List ℕ
 bytesOf (on note s) = packedOf note
 bytesOf (over r) = []
 
+-- where a run stands behind a turn, how many literal bytes are used then, and what the turn came to
+pub record Went : Type 0 where
+  pub state : State
+  pub used : ℕ
+  pub next : Next
+
+abbrev pub went : State → ℕ → Next → Went
+went s used x = record { state = s; used = used; next = x }
+
 -- a run that is over stays where it stands; else it goes where the step leads
-abbrev pub turned : State → ℕ → Step → Next → Turned
-turned s used x (Over e) = record { state = s; used = used; next = Over e }
-turned s used x On = record { state = stateOf s x; used = used + length (bytesOf x); next = On }
-turned s used x (Listed e) = record { state = stateOf s x; used = used + length (bytesOf x); next = Listed e }
+abbrev pub turned : State → ℕ → Step → Next → Went
+turned s used x (Over e) = went s used (Over e)
+turned s used x On = went (stateOf s x) (used + length (bytesOf x)) On
+turned s used x (Listed e) = went (stateOf s x) (used + length (bytesOf x)) (Listed e)
 
 -- the turn of a step
-unfoldable pub turnOf : Bounds → Bool → ℕ → State → Step → Turned
+unfoldable pub turnOf : Bounds → Bool → ℕ → State → Step → Went
 turnOf b free used s x = turned s used x (nextOf b free used x)
 
 -- the literal bytes behind it: those of what is listed, behind those before; and the old rest
@@ -71,8 +85,33 @@ kept old used x (Listed e) = sets old used (bytesOf x)
 unfoldable pub keptOf : Bounds → Bool → ℕ → Step → List ℕ → List ℕ
 keptOf b free used x old = kept old used x (nextOf b free used x)
 
+-- where a run stands behind what a turn has passed: the open braces are counted only behind what is listed
+abbrev pub ledBy : State → Passed → Cursor → ℕ → Next → Went
+ledBy s what to used (Over e) = went s used (Over e)
+ledBy s what to used On = went (movedTo to s) used On
+ledBy s what to used (Listed e) = went (behindOf what to s) used (Listed e)
+
+abbrev pub led : State → Turned → Went
+led s r = ledBy s (passedOf (r .piece) (r .token)) (r .to) (r .used) (r .next)
+
+-- a turn leads a run there, and there is an interpolation left where it opens one
+abbrev pub Leads : State → Turned → Went → Type 0
+Leads s r w = (led s r ≡ w) × Fits (passedOf (r .piece) (r .token)) s
+
+-- of every run with so many interpolations open
+abbrev pub Deep : ℕ → (State → Type 0) → Type 0
+Deep level P = (at : Cursor) (braces : List ℕ) (due : Bool) → P (state at level braces due)
+
+-- of every run at a cursor
+abbrev pub At : Cursor → (State → Type 0) → Type 0
+At at P = (level : ℕ) (braces : List ℕ) (due : Bool) → P (state at level braces due)
+
+-- of every run at a cursor, with so many interpolations open and a text due or not, whatever braces are open
+abbrev pub Standing : Cursor → ℕ → Bool → (State → Type 0) → Type 0
+Standing at level due P = (braces : List ℕ) → P (state at level braces due)
+
 -- a literal that is listed, with its length: a piece of text that `${` ends opens an interpolation
-unfoldable pub listedAs : ℕ → End → Position → ℕ → State → ℕ → Turned
-listedAs k e p m s used =
-    pick (e .interpolated) (record { state = interpolated (e .cursor) s; used = used + m; next = Listed (entry interpolatedText p used m) })
-    (record { state = movedTo (e .cursor) s; used = used + m; next = Listed (entry k p used m) })
+unfoldable pub listedAs : ℕ → End → Position → ℕ → ℕ → Turned
+listedAs k e p m used =
+    pick (e .interpolated) (record { piece = true; token = Tokens.InterpolatedString; to = e .cursor; used = used + m; next = Listed (entry interpolatedText p used m) })
+    (record { piece = false; token = Tokens.StringConstant; to = e .cursor; used = used + m; next = Listed (entry k p used m) })

@@ -17,10 +17,11 @@ ghost use Rattle.string_take.specs.Kinds.{apostrophe};
 ghost use Rattle.string_reading.specs.Scans.{readingOf};
 ghost use Rattle.reading.specs.CutRun.{full, scanned};
 ghost use Rattle.reading.specs.declared.Ending.the-variants.{Stop};
-ghost use Rattle.script.specs.States.{Fine};
+ghost use Rattle.script.specs.Skips.{skipped};
+ghost use Rattle.token.specs.Tokens.{EOF};
 ghost use Rattle.script.specs.Steps.{terminatorOf, traceOf, wrongOf, faultOf, literalOf, partOf, endOf, stepOf};
 ghost use Rattle.run_turn.specs.declared.Next.the-variants.{Over};
-ghost use Rattle.run_turn.specs.Turns.{within, turnOf, keptOf, listedAs};
+ghost use Rattle.run_turn.specs.Turns.{within, turnOf, keptOf, Leads, Deep, At, Standing, listedAs};
 use chars::cursor::Cursor;
 use fault::Fault;
 use fault::Part;
@@ -30,8 +31,7 @@ use literal::Scanned;
 use position::Position;
 use reading::Ending;
 use reading::Entry;
-use script::Passed;
-use script::State;
+use token::tokens;
 use utf8::Look;
 
 const QUOTE: u32 = 0x22;
@@ -50,9 +50,12 @@ pub enum Next {
     Over(Ending),
 }
 
-// Where a run stands behind a turn, how many literal bytes are used then, and what the turn came to.
+// What a turn has passed and up to where, how many literal bytes are used then, and what the turn came to.
 pub struct Turned {
-    pub state: State,
+    // Whether it is a piece of text that `${` ended; else the Rust's token.
+    pub piece: bool,
+    pub token: u8,
+    pub to: Cursor,
     pub used: usize,
     pub next: Next,
 }
@@ -133,38 +136,42 @@ fn write(text: &[u8], kind: u8, from: Cursor, len: usize, used: usize, literals:
 }
 
 // The run is over.
-fn over(s: State, used: usize, ending: Ending) -> Turned
-    ensures { λ r. ⌜ r ≡ record { state = s; used = used; next = Over ending } ⌝ }
+fn over(to: Cursor, used: usize, ending: Ending) -> Turned
+    ensures { λ r. ⌜ r ≡ record { piece = false; token = EOF; to = to; used = used; next = Over ending } ⌝ }
 {
     Turned {
-        state: s,
+        piece: false,
+        token: tokens::EOF,
+        to,
         used,
         next: Next::Over(ending),
     }
 }
 
 // It stops with a fault that is about no part of the script.
-fn stop(s: State, used: usize, number: u8, place: Position) -> Turned
-    ensures { λ r. ⌜ r ≡ record { state = s; used = used; next = Over (Stop (fault number place)) } ⌝ }
+fn stop(to: Cursor, used: usize, number: u8, place: Position) -> Turned
+    ensures { λ r. ⌜ r ≡ record { piece = false; token = EOF; to = to; used = used; next = Over (Stop (fault number place)) } ⌝ }
 {
     let fault = Fault {
         number,
         place,
         part: Part::NONE,
     };
-    over(s, used, Ending::Stop(fault))
+    over(to, used, Ending::Stop(fault))
 }
 
 // A literal that is listed: a piece of text that `${` ends opens an interpolation.
-fn list(kind: u8, end: End, place: Position, len: usize, s: State, at: usize, used: usize) -> Turned
-    requires { ⌜ Fine s × (used ≡ at + len) × (end .interpolated ≡ true → s .level < 16) ⌝ }
-    ensures { λ r. ⌜ r ≡ listedAs kind end place len s at ⌝ }
+fn list(kind: u8, end: End, place: Position, len: usize, at: usize, used: usize) -> Turned
+    requires { ⌜ used ≡ at + len ⌝ }
+    ensures { λ r. ⌜ r ≡ listedAs kind end place len at ⌝ }
 {
     let to = end.cursor;
     if end.interpolated {
         let kind = INTERPOLATED;
         return Turned {
-            state: s.behind(Passed::Piece, to),
+            piece: true,
+            token: tokens::INTERPOLATED_STRING,
+            to,
             used,
             next: Next::Listed(Entry {
                 kind,
@@ -175,7 +182,9 @@ fn list(kind: u8, end: End, place: Position, len: usize, s: State, at: usize, us
         };
     }
     Turned {
-        state: s.behind(Passed::Plain, to),
+        piece: false,
+        token: tokens::STRING_CONSTANT,
+        to,
         used,
         next: Next::Listed(Entry {
             kind,
@@ -193,31 +202,31 @@ fn accepted(
     from: Cursor,
     end: End,
     len: usize,
-    s: State,
+    level: usize,
     limit: usize,
     free: bool,
     used: usize,
     literals: &mut [u8],
 ) -> Turned
-    requires { ⌜ Fine s × (from .at ≤ length (now text)) × (used ≤ length (now literals)) × (scanned (within limit (length (now literals))) used from (traceOf (now text) kind from) ≡ Accepted end len) ⌝ }
-    ensures { λ r. ⌜ r ≡ turnOf (within limit (length (now (literals .entry)))) free used s (literalOf (now (text .entry)) kind from s) ⌝ }
-    ensures { λ r. ⌜ now (literals .exit) ≡ keptOf (within limit (length (now (literals .entry)))) free used (literalOf (now (text .entry)) kind from s) (now (literals .entry)) ⌝ }
+    requires { ⌜ (from .at ≤ length (now text)) × (used ≤ length (now literals)) × (scanned (within limit (length (now literals))) used from (traceOf (now text) kind from) ≡ Accepted end len) ⌝ }
+    ensures { λ r. ⌜ Deep level (λ s. Leads s r (turnOf (within limit (length (now (literals .entry)))) free used s (literalOf (now (text .entry)) kind from s))) ⌝ }
+    ensures { λ r. ⌜ Deep level (λ s. now (literals .exit) ≡ keptOf (within limit (length (now (literals .entry)))) free used (literalOf (now (text .entry)) kind from s) (now (literals .entry))) ⌝ }
 {
     let after = used + len;
     let place = from.place;
-    let wrong = wrong_of(text, kind, s.level, from, end, len);
+    let wrong = wrong_of(text, kind, level, from, end, len);
     if wrong == Fault::STILL_OPEN {
         let to = end.cursor;
-        return stop(s, used, wrong, to.place);
+        return stop(to, used, wrong, to.place);
     }
     if wrong != 0 {
-        return stop(s, used, wrong, place);
+        return stop(from, used, wrong, place);
     }
     if free {
         write(text, kind, from, len, used, literals);
-        return list(kind, end, place, len, s, used, after);
+        return list(kind, end, place, len, used, after);
     }
-    stop(s, used, Fault::NO_TOKEN_ROOM, place)
+    stop(from, used, Fault::NO_TOKEN_ROOM, place)
 }
 
 // A literal of a kind, from where its scan starts.
@@ -225,40 +234,52 @@ fn literal(
     text: &[u8],
     kind: u8,
     from: Cursor,
-    s: State,
+    level: usize,
     limit: usize,
     free: bool,
     used: usize,
     literals: &mut [u8],
 ) -> Turned
-    requires { ⌜ Fine s × (from .at ≤ length (now text)) × (used ≤ length (now literals)) ⌝ }
-    ensures { λ r. ⌜ r ≡ turnOf (within limit (length (now (literals .entry)))) free used s (literalOf (now (text .entry)) kind from s) ⌝ }
-    ensures { λ r. ⌜ now (literals .exit) ≡ keptOf (within limit (length (now (literals .entry)))) free used (literalOf (now (text .entry)) kind from s) (now (literals .entry)) ⌝ }
+    requires { ⌜ (from .at ≤ length (now text)) × (used ≤ length (now literals)) ⌝ }
+    ensures { λ r. ⌜ Deep level (λ s. Leads s r (turnOf (within limit (length (now (literals .entry)))) free used s (literalOf (now (text .entry)) kind from s))) ⌝ }
+    ensures { λ r. ⌜ Deep level (λ s. now (literals .exit) ≡ keptOf (within limit (length (now (literals .entry)))) free used (literalOf (now (text .entry)) kind from s) (now (literals .entry))) ⌝ }
 {
     let scanned = measure(text, kind, from, limit, literals.len() - used);
     match scanned {
         Scanned::Refused(refusal) => {
             let fault = refusal.fault;
-            return over(s, used, Ending::Stop(fault));
+            return over(from, used, Ending::Stop(fault));
         }
         Scanned::Accepted(end, len) => {
-            return accepted(text, kind, from, end, len, s, limit, free, used, literals);
+            return accepted(
+                text,
+                kind,
+                from,
+                end,
+                len,
+                level,
+                limit,
+                free,
+                used,
+                literals,
+            );
         }
     }
 }
 
-// A token that is a part of the script, up to a cursor.
-fn part(kind: u8, token: u8, to: Cursor, s: State, free: bool, used: usize) -> Turned
-    requires { ⌜ Fine s × (s .cursor .at ≤ to .at) ⌝ }
-    ensures { λ r. ⌜ r ≡ turnOf (within 0 0) free used s (partOf kind token to s) ⌝ }
+// A token that is a part of the script, from a cursor up to another.
+fn part(kind: u8, token: u8, to: Cursor, from: Cursor, free: bool, used: usize) -> Turned
+    requires { ⌜ from .at ≤ to .at ⌝ }
+    ensures { λ r. ⌜ At from (λ s. Leads s r (turnOf (within 0 0) free used s (partOf kind token to s))) ⌝ }
 {
-    let cursor = s.cursor;
-    let at = cursor.at;
-    let place = cursor.place.advanced();
+    let at = from.at;
+    let place = from.place.advanced();
     if free {
         let len = to.at - at;
         return Turned {
-            state: s.behind(Passed::Token(token), to),
+            piece: false,
+            token,
+            to,
             used,
             next: Next::Listed(Entry {
                 kind,
@@ -268,51 +289,64 @@ fn part(kind: u8, token: u8, to: Cursor, s: State, free: bool, used: usize) -> T
             }),
         };
     }
-    stop(s, used, Fault::NO_TOKEN_ROOM, place)
+    stop(from, used, Fault::NO_TOKEN_ROOM, place)
 }
 
 // The script's end: 11 at the cursor where an interpolation is open.
-fn end(s: State, used: usize) -> Turned
-    ensures { λ r. ⌜ r ≡ turnOf (within 0 0) false used s (endOf s) ⌝ }
+fn end(here: Cursor, level: usize, used: usize) -> Turned
+    ensures { λ r. ⌜ Standing here level false (λ s. Leads s r (turnOf (within 0 0) false used s (endOf s))) ⌝ }
 {
-    let cursor = s.cursor;
-    let place = cursor.place;
-    if s.level == 0 {
-        return over(s, used, Ending::End(place));
+    let place = here.place;
+    if level == 0 {
+        return over(here, used, Ending::End(place));
     }
-    stop(s, used, Fault::STILL_OPEN, place)
+    stop(here, used, Fault::STILL_OPEN, place)
 }
 
 // Inner: one turn, for a run, which has checked its script and its book and holds the words. A text that is due goes on from its
-// `}`; else what begins here.
+// `}`; else what begins behind the white space. It takes of the run's state what it needs, and answers what it has passed, so that
+// the open braces are touched only where they are counted.
 pub fn turn(
     words: &[u8],
     book: &[u8],
     text: &[u8],
-    s: State,
+    cursor: Cursor,
+    level: usize,
+    due: bool,
     limit: usize,
     free: bool,
     used: usize,
     literals: &mut [u8],
 ) -> Turned
-    requires { ⌜ (now words ≡ table) × (good (now book) ≡ true) × Fine s × (s .cursor .at ≤ length (now text)) × (used ≤ length (now literals)) ⌝ }
-    ensures { λ r. ⌜ r ≡ turnOf (within limit (length (now (literals .entry)))) free used s (stepOf (now (text .entry)) (now (book .entry)) s) ⌝ }
-    ensures { λ r. ⌜ now (literals .exit) ≡ keptOf (within limit (length (now (literals .entry)))) free used (stepOf (now (text .entry)) (now (book .entry)) s) (now (literals .entry)) ⌝ }
+    requires { ⌜ (now words ≡ table) × (good (now book) ≡ true) × (cursor .at ≤ length (now text)) × (used ≤ length (now literals)) ⌝ }
+    ensures { λ r. ⌜ Standing cursor level due (λ s. Leads (skipped (now (text .entry)) s) r (turnOf (within limit (length (now (literals .entry)))) free used (skipped (now (text .entry)) s) (stepOf (now (text .entry)) (now (book .entry)) (skipped (now (text .entry)) s)))) ⌝ }
+    ensures { λ r. ⌜ Standing cursor level due (λ s. now (literals .exit) ≡ keptOf (within limit (length (now (literals .entry)))) free used (stepOf (now (text .entry)) (now (book .entry)) (skipped (now (text .entry)) s)) (now (literals .entry))) ⌝ }
 {
-    let cursor = s.cursor;
-    if s.due {
-        return literal(text, Found::TEXT, cursor, s, limit, free, used, literals);
+    if due {
+        return literal(
+            text,
+            Found::TEXT,
+            cursor,
+            level,
+            limit,
+            free,
+            used,
+            literals,
+        );
     }
-    let found = find::find(words, book, text, cursor);
+    let here = find::skip(text, cursor);
+    let found = find::find(words, book, text, here);
     match found {
         Found::White(to) => Turned {
-            state: s.behind(Passed::Plain, to),
+            piece: false,
+            token: tokens::COMMENT,
+            to,
             used,
             next: Next::On,
         },
-        Found::Part(kind, token, to) => part(kind, token, to, s, free, used),
-        Found::Literal(kind, from) => literal(text, kind, from, s, limit, free, used, literals),
-        Found::Wrong(fault) => over(s, used, Ending::Stop(fault)),
-        Found::End => end(s, used),
+        Found::Part(kind, token, to) => part(kind, token, to, here, free, used),
+        Found::Literal(kind, from) => literal(text, kind, from, level, limit, free, used, literals),
+        Found::Wrong(fault) => over(here, used, Ending::Stop(fault)),
+        Found::End => end(here, level, used),
     }
 }

@@ -1,3 +1,5 @@
 pub mod States
 pub mod Steps
 pub mod Script
+pub mod Counts
+pub mod Skips

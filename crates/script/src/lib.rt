@@ -1,8 +1,10 @@
 // Where a run over a script stands: the Rust's TokenizeState, by value. specs/ has the reading of a script by the unlimited rules.
 ghost use mathlib.Core.Path.{_≡_};
 ghost use Prim.Native.Nat.{_≤_, _<_};
-ghost use Rattle.script.specs.States.{movedTo, interpolated, counted, opened, closed, Fine, Fits, behindOf};
+ghost use Rattle.script.specs.States.{begun, movedTo, interpolated, counted, opened, closed, Fine, Fits, behindOf};
+ghost use Rattle.script.specs.Counts.{passedOf, counts};
 use chars::cursor::Cursor;
+use position::Position;
 use token::tokens;
 
 pub struct State {
@@ -21,6 +23,42 @@ pub enum Passed {
     Plain,
     Piece,
     Token(u8),
+}
+
+impl Passed {
+    // Inner: a piece of text that `${` ended, or the Rust's token. A turn answers by these two numbers, which the machine carries
+    // faster than this enum.
+    pub fn given(piece: bool, token: u8) -> Passed
+        ensures { λ r. ⌜ r ≡ passedOf piece token ⌝ }
+    {
+        if piece {
+            return Passed::Piece;
+        }
+        Passed::Token(token)
+    }
+
+    // Inner: whether braces are to be counted behind it, with so many interpolations open. Behind anything else a run only stands
+    // further on.
+    pub fn counts(self, level: usize) -> bool
+        ensures { λ r. ⌜ r ≡ counts level self ⌝ }
+    {
+        match self {
+            Passed::Plain => false,
+            Passed::Piece => true,
+            Passed::Token(token) => {
+                if level == 0 {
+                    return false;
+                }
+                if token == tokens::LEFT_BRACE {
+                    return true;
+                }
+                if token == tokens::MAP_START {
+                    return true;
+                }
+                token == tokens::RIGHT_BRACE
+            }
+        }
+    }
 }
 
 fn moved_to(to: Cursor, s: State) -> State
@@ -103,6 +141,21 @@ fn closed(to: Cursor, s: State) -> State
 }
 
 impl State {
+    // Inner: where a run begins.
+    pub fn begun() -> State
+        ensures { λ r. ⌜ r ≡ begun ⌝ }
+    {
+        State {
+            cursor: Cursor {
+                at: 0,
+                place: Position::START,
+            },
+            level: 0,
+            braces: [0; 16],
+            due: false,
+        }
+    }
+
     // Inner: where a run stands behind what it has passed.
     pub fn behind(self, what: Passed, to: Cursor) -> State
         requires { ⌜ Fine self × Fits what self ⌝ }

@@ -1,7 +1,7 @@
 -- Refused, or accepted.
-use native.Mathlib.Omega.{arith}
-use mathlib.Core.Path.{_≡_, sym, ap, _∙_}
+use mathlib.Core.Path.{_≡_, sym, _∙_}
 use borrow.Author.Needs.{needs}
+use Rattle.script.specs.States.{state}
 use Rattle.run_turn.proofs.Reading.{over-turn, over-kept, refused-next}
 use Rattle.run_turn.proofs.literal.Statement.{statement}
 use Rattle.run_turn.proofs.literal.Tie as tie
@@ -10,14 +10,16 @@ refused-returns : tie.Need-returns
 refused-returns c =
     let told = c .before .before .before in
     let k = told .before .before .before .before .before in
-    let h = refused-next _ _ _ _ _ _ _ (sym (told .before .before .measure .ensures) ∙ told .scanned .given .1) in
-    (c .over .ensures ∙ sym (over-turn _ _ _ _ _ h), sym (over-kept _ _ _ (k .args .s) _ h _))
+    let h = sym (told .before .before .measure .ensures) ∙ told .scanned .given .1 in (
+      λ at braces due. rw (c .over .ensures) (sym (over-turn _ _ _ _ _ (refused-next _ _ _ _ _ _ _ h)), tt),
+      λ at braces due. let s = state at (k .args .level) braces due in sym (over-kept _ _ _ s _ (refused-next _ (k .args .free) _ _ _ _ s h) _),
+    )
 
 accepted-requires : tie.Need-accepted-requires
 accepted-requires c κs =
     let told = c .before .before in
     let k = told .before .before .before .before .before in
-    (k .pre .0, k .pre .1, k .pre .2, sym (told .before .before .measure .ensures) ∙ told .scanned2 .given .1)
+    (k .pre .0, k .pre .1, sym (told .before .before .measure .ensures) ∙ told .scanned2 .given .1)
 
 pub literal-spec : {M : Type 1} → statement M
 literal-spec =
