@@ -1,5 +1,6 @@
 pub mod Cursors
 pub mod Scans
+pub mod Stretches
 pub mod Follows
 pub mod Reaches
 pub mod Holds

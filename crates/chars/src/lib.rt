@@ -1,2 +1,3 @@
 // Going through the characters of a lent text: the cursor, and the driver of every scanner.
 pub mod cursor;
+pub mod passing;

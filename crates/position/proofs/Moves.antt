@@ -1,15 +1,16 @@
 -- Laws of places and their moves, for crates above that never look inside a place.
 -- Assumes nothing.
-use Prim.Native.Nat.{ℕ, _+_, _-_, _≤_, _<_, min}
+use Prim.Native.Nat.{ℕ, zero, suc, _+_, _-_, _≤_, _<_, min}
 use native.Mathlib.Omega.{arith}
+use native.Mathlib.Numerals.{add-one}
 use mathlib.Core.Bool.{Bool, true, false}
 use mathlib.Core.Logic.{⊎-elim}
 use mathlib.Core.Path.{_≡_, refl, sym, ap, _∙_}
 use lib.Dec.{eqb}
 use borrow.Author.Tests.{eq-eqb, ne-eqb, eqb-true}
-use Rattle.basis.specs.Pick.{both, isnt}
+use Rattle.basis.specs.Pick.{pick, both, isnt}
 use Rattle.basis.proofs.Bounds.{split}
-use Rattle.basis.proofs.Cases.{not-both, both-left, both-right}
+use Rattle.basis.proofs.Cases.{not-both, both-no, both-left, both-right}
 use Rattle.position.specs.Place.{
   place,
   none,
@@ -20,8 +21,10 @@ use Rattle.position.specs.Place.{
   isNone,
   onLine,
   beginsLine,
+  orElse,
   up,
   advanced,
+  advancedBy,
   lined,
   rewound,
 }
@@ -150,6 +153,53 @@ module _ (p : Position) where
   pub given-numbers : given (lineNumber p) (columnNumber p) ≡ p
   unfolding given lineNumber columnNumber
   given-numbers = refl
+
+-- many columns at once: none, one more, and all of them in numbers
+pub advanced-by-none : (p : Position) → advancedBy 0 p ≡ p
+unfolding advancedBy
+advanced-by-none p = refl
+
+pub advanced-by-more : (n : ℕ) (p : Position) → advancedBy (n + 1) p ≡ advanced (advancedBy n p)
+unfolding advancedBy
+advanced-by-more n p = rw (add-one n)
+
+pub advanced-by-numbers : (n : ℕ) (p : Position) → p .pos ≤ 65535 → advancedBy n p ≡ place (p .line) (min (p .pos + n) 65535)
+unfolding advancedBy advanced up
+advanced-by-numbers zero p h = ap (place (p .line)) (omega arith)
+advanced-by-numbers (suc n) p h = rw (advanced-by-numbers n p h) (ap (place (p .line)) (omega arith))
+
+-- a column on is some place, so the first of two places on stays the first
+pub advanced-some : (p : Position) → isNone (advanced p) ≡ false
+unfolding isNone advanced
+advanced-some p = rw (ne-eqb (up (p .pos)) 0 (up-some (p .pos))) (both-no (eqb (p .line) 0))
+
+first-stays : (f p q : Position) → orElse (orElse f (advanced p)) q ≡ orElse f (advanced p)
+unfolding orElse
+first-stays f p q = by (isNone f) refl
+  where
+    by : (b : Bool) → isNone f ≡ b → pick (isNone (pick (isNone f) (advanced p) f)) q (pick (isNone f) (advanced p) f) ≡ pick (isNone f) (advanced p) f
+    by true e = rw (e, advanced-some p)
+    by false e = rw (e, e)
+
+-- the first place, n columns on from p: f while there is none, then the first of them where f is none
+unfoldable pub firstBy : ℕ → Position → Position → Position
+firstBy zero f p = f
+firstBy (suc n) f p = orElse f (advanced p)
+
+module _ (f p : Position) where
+  pub first-by-none : firstBy 0 f p ≡ f
+  unfolding firstBy
+  first-by-none = refl
+
+  pub first-by-more : (n : ℕ) → orElse (firstBy n f p) (advanced (advancedBy n p)) ≡ firstBy (n + 1) f p
+  unfolding firstBy advancedBy
+  first-by-more zero = refl
+  first-by-more (suc n) = rw (add-one (suc n)) (first-stays f p (advanced (advanced (advancedBy n p))))
+
+  pub first-by-some : (n : ℕ) → (n ≡ 0 → ⊥) → firstBy n f p ≡ orElse f (advanced p)
+  unfolding firstBy
+  first-by-some zero h = absurd (h refl)
+  first-by-some (suc n) h = refl
 
 -- two numbers from outside, and out again
 module _ (l c : ℕ) where

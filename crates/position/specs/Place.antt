@@ -1,5 +1,5 @@
 -- Places in a script and their moves: document 01, "Position", and the type Position of types/position.rs.
-use Prim.Native.Nat.{ℕ, _+_, _-_, min}
+use Prim.Native.Nat.{ℕ, zero, suc, _+_, _-_, min}
 use mathlib.Core.Bool.{Bool}
 use lib.Dec.{eqb}
 use Rattle.basis.specs.Pick.{pick, both, isnt}
@@ -51,6 +51,11 @@ up n = min (n + 1) 65535
 -- one column on
 unfoldable pub advanced : Position → Position
 advanced p = place (p .line) (up (p .pos))
+
+-- n columns on, one by one
+unfoldable pub advancedBy : ℕ → Position → Position
+advancedBy zero p = p
+advancedBy (suc n) p = advanced (advancedBy n p)
 
 -- the next line, column 0
 unfoldable pub lined : Position → Position

@@ -9,6 +9,7 @@ ghost use Rattle.position.specs.Place.{
   beginsLine,
   orElse,
   advanced,
+  advancedBy,
   lined,
   rewound,
 };
@@ -92,6 +93,23 @@ impl Position {
         Self {
             line: self.line,
             pos: self.pos + 1,
+        }
+    }
+
+    // The same for n columns at once.
+    pub fn advanced_by(self, n: usize) -> Self
+        ensures { λ r. ⌜ r ≡ advancedBy n self ⌝ }
+    {
+        let pos = self.pos as usize;
+        if 65535 - pos <= n {
+            return Self {
+                line: self.line,
+                pos: 65535,
+            };
+        }
+        Self {
+            line: self.line,
+            pos: (pos + n) as u16,
         }
     }
 
