@@ -4,51 +4,74 @@ use native.Mathlib.Omega.{arith}
 use mathlib.Core.Bool.{Bool, true, false}
 use mathlib.Core.List.{List, _∷_}
 use mathlib.Core.Path.{_≡_, refl, sym, ap, _∙_}
-use lib.Dec.{eqb}
 use lib.ListN.{length}
-use Rattle.basis.specs.Pick.{isnt}
+use borrow.Author.Tests.{eq-eqb, ne-eqb}
 use Rattle.position.specs.declared.Position.{Position}
-use Rattle.position.specs.Place.{advanced}
+use Rattle.position.specs.Place.{advanced, advancedBy}
+use Rattle.position.proofs.Moves.{advanced-by-none, advanced-by-more}
 use Rattle.utf8.specs.Table.{lookAt}
+use Rattle.utf8.specs.declared.Look.{Look}
 use Rattle.utf8.specs.declared.Look.the-variants as look
 use Rattle.utf8.proofs.Laws.{at-width, by-chars}
 use Rattle.classes.specs.Class.{isIdContinue}
-use Rattle.chars.specs.Cursors.{cursor, eatNextOf}
+use Rattle.chars.specs.Cursors.{cursor}
 use Rattle.chars.specs.Scan.{runAt}
 use Rattle.chars.specs.declared.cursor.Cursor.{Cursor}
-use Rattle.chars.specs.declared.cursor.Taken.the-variants as taken
-use Rattle.chars.proofs.Cursors.{Took, ate-took, ate-ended}
+use Rattle.chars.specs.Stretch as stretch
+use Rattle.chars.proofs.Stretches.{Plain, plain-turn, stretched}
 use Rattle.chars.proofs.Scans.{move-on, move-over, at-end, one-on, is-over}
 use Rattle.stretch.specs.Stretch.{goesOn, rule, endOf}
+use Rattle.stretch.specs.Passing.{Goes, Ends}
 use Rattle.stretch.specs.declared.Stretch.{Stretch}
 use Rattle.stretch.specs.declared.Stretch.the-variants.{Word, Line}
 
--- ---- what goes on
-pub word-goes : {what : Stretch} (c : ℕ) {b : Bool} → what ≡ Word → b ≡ isIdContinue c → b ≡ goesOn what c
+-- ---- what goes on, as the code asks
+pub word-goes : (c : ℕ) {b : Bool} → b ≡ isIdContinue c → {v : Bool} → b ≡ v → goesOn Word c ≡ v
 unfolding goesOn
-word-goes c q e = rw q e
+word-goes c e y = sym e ∙ y
 
-pub line-goes : {what : Stretch} (c : ℕ) → what ≡ Line → isnt (eqb c 0x0A) ≡ goesOn what c
+pub line-goes : (c : ℕ) → (c ≡ 0x0A → ⊥) → goesOn Line c ≡ true
 unfolding goesOn
-line-goes c q = rw q
+line-goes c n = rw (ne-eqb c 0x0A n)
 
--- ---- one turn
+pub line-stops : (c : ℕ) → c ≡ 0x0A → goesOn Line c ≡ false
+unfolding goesOn
+line-stops c e = rw (eq-eqb c 0x0A e)
+
+-- ---- where it stops
+char-is : {c d v w : ℕ} → look.Char c w ≡ look.Char d v → c ≡ d
+char-is e = cc
+
+no-char {ℓ} : {A : Type ℓ} {d v : ℕ} → look.End ≡ look.Char d v → A
+no-char e = absurd (let z : _≡_ {A = ℕ} 0 1 = cc in omega arith)
+
+module _ (what : Stretch) (t : List ℕ) {a k b : ℕ} (p : stretch.Stretch t (Goes what) a k b) where
+  pub ends-there : lookAt t b ≡ look.End → Ends what t a k b
+  ends-there e = record { passed = p; stops = λ c w f. no-char (sym e ∙ f) }
+
+  pub stops-there : {c w : ℕ} → lookAt t b ≡ look.Char c w → goesOn what c ≡ false → Ends what t a k b
+  stops-there e n = record { passed = p; stops = λ d v f. ap (goesOn what) (sym (char-is (sym e ∙ f))) ∙ n }
+
 module _ (what : Stretch) (t : List ℕ) (s : Cursor) where
-  pub ended : eatNextOf t s ≡ taken.End → endOf what t s ≡ s
+  -- behind k characters that go on
+  abbrev after : ℕ → Position
+  after k = advancedBy k (s .place)
+
+  plain : (k b c w : ℕ) → lookAt t b ≡ look.Char c w → Goes what c → Plain (rule what) t after (λ b r. r) k b w
+  plain k b c w e y = plain-turn (rule what) t after (λ b r. r) e (rw (y, advanced-by-more k (s .place))) (λ r. refl)
+
+  passed : {k b : ℕ} → stretch.Stretch t (Goes what) (s .at) k b → endOf what t s ≡ runAt (rule what) t b (after k)
   unfolding endOf
-  ended q = move-over (rule what) t (s .at) (s .place) (at-end (rule what) t (s .at) (s .place) (ate-ended t s q))
+  passed {k} {b} p =
+      ap (runAt (rule what) t (s .at)) (sym (advanced-by-none (s .place)))
+      ∙ stretched (rule what) t after (λ b r. r) (Goes what) (s .at) b (λ k b c w h l. plain k b c w) p (omega arith)
 
-  module _ {c : ℕ} {next : Cursor} (q : eatNextOf t s ≡ taken.Char c next) where
-    k : Took t (s .at) (advanced (s .place)) c next
-    k = ate-took t s q
-
-    pub passed : goesOn what c ≡ true → endOf what t s ≡ endOf what t next
-    unfolding endOf
-    passed y = rw (k .stands) (move-on (rule what) t (s .at) (s .place) (one-on (rule what) t (s .at) (s .place) (k .found) (rw y)))
-
-    pub stopped : goesOn what c ≡ false → endOf what t s ≡ s
-    unfolding endOf
-    stopped n = move-over (rule what) t (s .at) (s .place) (is-over (rule what) t (s .at) (s .place) (k .found) (rw n))
+  ended : {k b : ℕ} → Ends what t (s .at) k b → endOf what t s ≡ cursor b (after k)
+  ended {k} {b} e = passed (e .passed) ∙ by (lookAt t b) refl
+    where
+      by : (x : Look) → lookAt t b ≡ x → runAt (rule what) t b (after k) ≡ cursor b (after k)
+      by (look.Char c w) f = move-over (rule what) t b (after k) (is-over (rule what) t b (after k) f (rw (e .stops c w f)))
+      by look.End f = move-over (rule what) t b (after k) (at-end (rule what) t b (after k) f)
 
 -- ---- where it ends: at its start or behind it, within the text
 module _ (what : Stretch) (t : List ℕ) where
@@ -71,3 +94,10 @@ module _ (what : Stretch) (t : List ℕ) where
   pub end-reached : (s : Cursor) → (s .at ≤ endOf what t s .at) × (s .at ≤ length t → endOf what t s .at ≤ length t)
   unfolding endOf
   end-reached s = every (s .at) (s .place)
+
+  pub is-end : {v : Stretch} → what ≡ v → (s : Cursor) {k b : ℕ} → Ends v t (s .at) k b → {r : Cursor} → r ≡ cursor b (advancedBy k (s .place))
+      → (r ≡ endOf what t s) × ((s .at ≤ r .at) × (s .at ≤ length t → r .at ≤ length t))
+  is-end m s {k} {b} e q =
+      let f : Ends what t (s .at) k b = rw m e in
+      let z = q ∙ sym (ended what t s f) in
+      (z, rw z (end-reached s))

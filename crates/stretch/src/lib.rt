@@ -2,9 +2,14 @@
 ghost use mathlib.Core.Path.{_≡_};
 ghost use Prim.Native.Nat.{_≤_};
 ghost use lib.ListN.{length};
-ghost use Rattle.stretch.specs.Stretch.{goesOn, endOf};
+ghost use Rattle.position.specs.Place.{advancedBy};
+ghost use Rattle.chars.specs.Cursors.{cursor};
+ghost use Rattle.stretch.specs.Stretch.{endOf};
+ghost use Rattle.stretch.specs.Passing.{Ends};
+ghost use Rattle.stretch.specs.declared.Stretch.the-variants.{Word, Line};
 use chars::cursor::Cursor;
-use chars::cursor::Taken;
+use chars::passing::Passed;
+use utf8::Look;
 
 const LF: u32 = 0x0A;
 
@@ -14,14 +19,51 @@ pub enum Stretch {
     Line,
 }
 
-// Whether a character goes on.
-fn goes_on(what: Stretch, c: u32) -> bool
-    ensures { λ r. ⌜ r ≡ goesOn what c ⌝ }
+// Passes a word.
+fn word(text: &[u8], from: usize) -> Passed
+    ensures { λ r. ⌜ Ends Word (now (text .entry)) from (r .count) (r .at) ⌝ }
 {
-    match what {
-        Stretch::Word => classes::is_id_continue(c),
-        Stretch::Line => c != LF,
+    let mut at = from;
+    let mut count = 0;
+    loop {
+        let Look::Char(c, w) = utf8::look_at(text, at) else {
+            return Passed { at, count };
+        };
+        if classes::is_id_continue(c) {
+            at += w;
+            count += 1;
+        } else {
+            return Passed { at, count };
+        }
     }
+}
+
+// Passes a line.
+fn line(text: &[u8], from: usize) -> Passed
+    ensures { λ r. ⌜ Ends Line (now (text .entry)) from (r .count) (r .at) ⌝ }
+{
+    let mut at = from;
+    let mut count = 0;
+    loop {
+        let Look::Char(c, w) = utf8::look_at(text, at) else {
+            return Passed { at, count };
+        };
+        if c != LF {
+            at += w;
+            count += 1;
+        } else {
+            return Passed { at, count };
+        }
+    }
+}
+
+// The cursor behind what was passed, a column on for each character.
+fn behind(start: Cursor, passed: Passed) -> Cursor
+    ensures { λ r. ⌜ r ≡ cursor (passed .at) (advancedBy (passed .count) (start .place)) ⌝ }
+{
+    let at = passed.at;
+    let place = start.place.advanced_by(passed.count);
+    Cursor { at, place }
 }
 
 // Behind every character that goes on.
@@ -29,15 +71,8 @@ pub fn end_of(what: Stretch, text: &[u8], start: Cursor) -> Cursor
     ensures { λ r. ⌜ r ≡ endOf what (now (text .entry)) start ⌝ }
     ensures { λ r. ⌜ (start .at ≤ r .at) × (start .at ≤ length (now (text .entry)) → r .at ≤ length (now (text .entry))) ⌝ }
 {
-    let mut cursor = start;
-    loop {
-        let Taken::Char(c, next) = cursor.eat_next_and_advance(text) else {
-            return cursor;
-        };
-        if goes_on(what, c) {
-            cursor = next;
-        } else {
-            return cursor;
-        }
+    match what {
+        Stretch::Word => behind(start, word(text, start.at)),
+        Stretch::Line => behind(start, line(text, start.at)),
     }
 }
