@@ -9,18 +9,23 @@ use lib.ListN.{length}
 use borrow.Author.Tests.{eq-eqb, ne-eqb, eqb-true}
 use Rattle.basis.specs.Pick.{pick}
 use Rattle.basis.proofs.Cases.{not-both}
-use Rattle.position.specs.Place.{advanced, lined}
+use Rattle.position.specs.declared.Position.{Position}
+use Rattle.position.specs.Place.{advanced, advancedBy, lined}
+use Rattle.position.proofs.Moves.{advanced-by-none, advanced-by-more}
 use Rattle.utf8.specs.Table.{charsAt, lookAt}
 use Rattle.utf8.specs.declared.Look.the-variants.{Char, End}
 use Rattle.utf8.proofs.Laws.{at-width, chars-char}
 use Rattle.chars.specs.Cursors.{cursor, eatNextOf}
-use Rattle.chars.specs.Scan.{follows, widths, Move, on, over}
+use Rattle.chars.specs.Scan.{follows, widths, runAt, Move, on, over}
+use Rattle.chars.specs.Stretch.{Stretch, Other}
 use Rattle.chars.specs.declared.cursor.Cursor.{Cursor}
 use Rattle.chars.specs.declared.cursor.Taken.{Taken}
 use Rattle.chars.specs.declared.cursor.Taken.the-variants as taken
 use Rattle.chars.proofs.Cursors.{Took, ate-took, ate-ended}
 use Rattle.chars.proofs.Follows.{followed, other-follows, nothing-follows}
 use Rattle.chars.proofs.Scans.{move-on, move-over, at-end, one-on, two-on, is-over}
+use Rattle.chars.proofs.Stretches.{is-other, stretched, stretch-low, stretch-high}
+use Rattle.chars.proofs.Stretches as stretches
 use Rattle.comment.specs.Block.{comment, Inside, inside, turn, rule, commentOf}
 use Rattle.comment.specs.Step.{eatIfOf, moveOf, asStep, Fine, Goes}
 use Rattle.comment.specs.declared.Comment.{Comment}
@@ -161,3 +166,27 @@ module _ (t : List ℕ) (level : ℕ) (from : Cursor) (m : ℕ) (next : Cursor) 
       go : (x : Move Inside (Unit {0}) Comment) → moveOf t level from ≡ x → Over m next ≡ asStep x → commentOf t from level ≡ comment m next
       go (on n at o) q h = apart (sym h)
       go (over x) q h = move-over rule t (from .at) (here t level from) q ∙ over-is (sym h)
+
+-- ---- characters that only take a column, passed at once
+abbrev pub Plain : ℕ → Type 0
+Plain c = Other 0x2F 0x2A 0x0A 0x0A 0x0A c
+
+module _ (t : List ℕ) (level : ℕ) (from : Cursor) where
+  abbrev after : ℕ → Inside
+  after k = inside level (advancedBy k (from .place))
+
+  one-passed : (k b c w : ℕ) → lookAt t b ≡ Char c w → Plain c → stretches.Plain rule t after (λ b r. r) k b w
+  unfolding turn
+  one-passed k b c w e y =
+      let n = is-other 0x2F 0x2A 0x0A 0x0A 0x0A c y in
+      stretches.plain-turn rule t after (λ b r. r) e (rw (n .0, n .1, n .2, advanced-by-more k (from .place))) (λ r. refl)
+
+  module _ {k b : ℕ} (p : Stretch t Plain (from .at) k b) {q : Position} (m : q ≡ advancedBy k (from .place)) where
+    pub passes : commentOf t from level ≡ commentOf t (cursor b q) level
+    unfolding commentOf
+    passes =
+        ap (λ (x : Position). runAt rule t (from .at) (inside level x)) (sym (advanced-by-none (from .place)))
+        ∙ rw m (stretched rule t after (λ b r. r) Plain (from .at) b (λ k b c w h l. one-passed k b c w) p (omega arith))
+
+    pub passed-fine : Fine (length t) level from → Fine (length t) level (cursor b q)
+    passed-fine f = record { low = f .low; high = omega (arith, f .high, stretch-low p); within = stretch-high p (f .within) }

@@ -85,6 +85,11 @@ pub fn scan(text: &[u8], start: Cursor, level: usize) -> Comment
     let mut depth = level;
     let mut cursor = start;
     loop {
+        let passed = chars::passing::pass(text, cursor.at, text.len(), SLASH, STAR, LF, LF, LF);
+        cursor = Cursor {
+            at: passed.at,
+            place: cursor.place.advanced_by(passed.count),
+        };
         let step = turn(text, depth, cursor);
         match step {
             Step::On(n, next) => {
