@@ -1,3 +1,4 @@
 pub mod Turns
 pub mod Limits
+pub mod Within
 pub mod Lands

@@ -43,7 +43,7 @@ pub accepted-whole : Accepted-whole
 accepted-whole full limit room t e n h = let d = done full limit room 0 t e n (omega arith) h in (d .0 ∙ zero-add (length (bytes t)), d .1, d .2)
 
 -- ---- within the limit and the room
-fewer : (limit n m : ℕ) → n ≤ m → passes limit m ≡ false → passes limit n ≡ false
+pub fewer : (limit n m : ℕ) → n ≤ m → passes limit m ≡ false → passes limit n ≡ false
 unfolding passes
 fewer limit n m h =
     pick-cases (λ (b : Bool). b ≡ false → pick (eqb limit 0) false (ltb limit n) ≡ false) (eqb limit 0) _ _

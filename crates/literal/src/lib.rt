@@ -1,5 +1,7 @@
 // How a scan of a literal answers, and the limit on a literal's length.
+ghost use mathlib.Core.Bool.{false};
 ghost use mathlib.Core.Path.{_≡_};
+ghost use Prim.Native.Nat.{_+_, _≤_, _<_};
 ghost use Rattle.literal.specs.Trace.{passes};
 use chars::cursor::Cursor;
 use fault::Fault;
@@ -48,4 +50,21 @@ pub fn is_over(limit: usize, n: usize) -> bool
         return true;
     }
     false
+}
+
+// By how many bytes a body of n bytes may grow before a limit or a room stops it.
+pub fn most(limit: usize, room: usize, n: usize) -> usize
+    requires { ⌜ n ≤ room ⌝ }
+    ensures { λ r. ⌜ (n + r ≤ room) × (0 < r → passes limit (n + r) ≡ false) ⌝ }
+{
+    if 0 < limit {
+        if limit <= n {
+            return 0;
+        }
+        if limit < room {
+            return limit - n;
+        }
+        return room - n;
+    }
+    room - n
 }

@@ -19,7 +19,8 @@ use Rattle.literal.specs.declared.Scanned.{Scanned}
 use Rattle.literal.specs.declared.Scanned.the-variants.{Accepted, Refused}
 use Rattle.raw_open.specs.Opening.{nothing}
 use Rattle.raw_scan.specs.Raw.{asSource, hashesOf, ended, Body, body, tooLong, rule, bodyOf, refused}
-use Rattle.raw_scan.specs.Step.{heldOf, behindOf}
+use Rattle.raw_scan.specs.Step.{heldOf, behindOf, Passes}
+use Rattle.raw_scan.specs.declared.Stand.{Stand}
 use Rattle.raw_scan.proofs.Turns.{ends-open}
 use Rattle.raw_scan.proofs.Steps.{Tells, tells, goes}
 use Rattle.raw_scan.proofs.Loops as loops
@@ -48,6 +49,16 @@ module _ (t : List ℕ) (start from : Cursor) (k limit room : ℕ) where
   module _ {here : Cursor} {first : Position} {held n : ℕ} (s : Stands here first held n) where
     abbrev state : Body
     state = body held (here .place) first
+
+    -- behind what was passed at once
+    pub passed : {r : Stand} → Passes t limit room held (record { here = here; first = first; n = n }) r → Stands (r .here) (r .first) held (r .n)
+    passed p = record {
+      fits = omega (arith, s .fits, p .low);
+      small = s .small;
+      counts = omega (arith, s .fits, s .counts, p .low, p .counts);
+      has-room = p .fits;
+      rest = s .rest ∙ p .same (start .place) k (refused 9 start);
+    }
 
     -- the text ends
     pub runs-out : eatNextOf t here ≡ taken.End → Accepted (ended here first (hashesOf k)) n ≡ answer

@@ -6,7 +6,7 @@ ghost use Rattle.literal.specs.Cut.{cut};
 ghost use Rattle.literal.specs.declared.Scanned.the-variants as Scanned;
 ghost use Rattle.raw_open.specs.Opening.{refusal};
 ghost use Rattle.raw_scan.specs.Raw.{asSource, ended, refused, bodyOf, readOf};
-ghost use Rattle.raw_scan.specs.Step.{heldOf, behindOf};
+ghost use Rattle.raw_scan.specs.Step.{heldOf, behindOf, Passes};
 use chars::cursor::Cursor;
 use chars::cursor::Taken;
 use fault::Fault;
@@ -86,6 +86,38 @@ fn accept(cursor: Cursor, first: Position, on_record: Terminator, len: usize) ->
     Scanned::Accepted(end, len)
 }
 
+// Where a scan of the body stands: the cursor, the first place, and the length of the body.
+struct Stand {
+    here: Cursor,
+    first: Position,
+    n: usize,
+}
+
+// Outside an attempt to close, passes all that is neither a quote nor a line feed, as far as no limit and no room stops it.
+fn pass(text: &[u8], limit: usize, room: usize, held: usize, s: Stand) -> Stand
+    requires { ⌜ s .n ≤ room ⌝ }
+    ensures { λ r. ⌜ Passes (now (text .entry)) limit room held s r ⌝ }
+{
+    if 0 < held {
+        return s;
+    }
+    let from = s.here.at;
+    let place = s.here.place;
+    let most = literal::most(limit, room, s.n);
+    let passed = chars::passing::pass(text, from, most, QUOTE, LF, LF, LF, LF);
+    if passed.count == 0 {
+        return s;
+    }
+    Stand {
+        here: Cursor {
+            at: passed.at,
+            place: place.advanced_by(passed.count),
+        },
+        first: s.first.or_else(place.advanced()),
+        n: s.n + (passed.at - from),
+    }
+}
+
 // The length of the body that begins at `from` and that k hashes close, and how it ends, within a limit and a room. The
 // literal's start is where its refusals are reported. A raw body is a part of the text: all from its beginning to here, but
 // for what is held back.
@@ -99,13 +131,16 @@ fn body_of(text: &[u8], start: Cursor, from: Cursor, k: usize, limit: usize, roo
     let mut held = 0;
     let mut n = 0;
     loop {
+        let s = pass(text, limit, room, held, Stand { here, first, n });
+        here = s.here;
+        first = s.first;
         let Taken::Char(c, next) = here.eat_next_and_advance(text) else {
-            return accept(here, first, on_record, n);
+            return accept(here, first, on_record, s.n);
         };
         here = behind(c, held, next);
         held = holds(c, held);
         if k < held {
-            return accept(next, first, Terminator::NONE, n);
+            return accept(next, first, Terminator::NONE, s.n);
         }
         first = first.or_else(here.place);
         n = next.at - from.at - held;

@@ -7,7 +7,8 @@ use borrow.Author.Needs.{needs}
 use Rattle.position.proofs.Moves.{none-is}
 use Rattle.chars.specs.Cursors.{eatNextOf}
 use Rattle.chars.specs.declared.cursor.Taken.the-variants.{Char}
-use Rattle.raw_scan.proofs.Stands.{Stands, begins, runs-out, less, held-low, is-behind, is-read, closes, is-full, is-too-long, goes-on}
+use Rattle.raw_scan.specs.declared.Stand.{Stand}
+use Rattle.raw_scan.proofs.Stands.{Stands, begins, passed, runs-out, less, held-low, is-behind, is-read, closes, is-full, is-too-long, goes-on}
 use Rattle.raw_scan.proofs.body_of.Statement.{statement}
 use Rattle.raw_scan.proofs.body_of.Tie as tie
 
@@ -17,16 +18,27 @@ Inv-loop text start from k limit room on-record here₀ first₀ held₀ n₀ he
 abbrev μ-loop : tie.MeasureT-loop
 μ-loop text start from k limit room on-record here₀ first₀ held₀ n₀ here first held n = length text - here .at
 
--- the character that was taken
-module _ (k : tie.After-known-told Inv-loop μ-loop) where
-  abbrev top : tie.At-loop Inv-loop μ-loop
-  top = k .before .before .before .before
+-- where it stands behind what was passed
+module _ (e : tie.After-eat-next-and-advance Inv-loop μ-loop) where
+  abbrev call : tie.After-pass Inv-loop μ-loop
+  call = e .before .before .before
 
   abbrev start : tie.Start Inv-loop μ-loop
-  start = top .before .before
+  start = call .before .before .before
 
-  ate : eatNextOf (start .args .text .now) (top .loop .here) ≡ Char (k .before .c .given .0 .0) (k .before .c .given .0 .1 .0)
-  ate = sym (k .before .before .before .eat-next-and-advance .ensures) ∙ k .before .c .given .1
+  abbrev there : Stand
+  there = call .pass .result
+
+  stands : Stands (start .args .text .now) (start .args .start) (start .args .from) (start .args .k) (start .args .limit) (start .args .room) (there .here) (there .first) (call .before .loop .held) (there .n)
+  stands = passed _ _ _ _ _ _ (call .before .loop .inv) (call .pass .ensures)
+
+-- the character that was taken
+module _ (k : tie.After-known-told Inv-loop μ-loop) where
+  abbrev eaten : tie.After-eat-next-and-advance Inv-loop μ-loop
+  eaten = k .before .before .before
+
+  ate : eatNextOf (start eaten .args .text .now) (there eaten .here) ≡ Char (k .before .c .given .0 .0) (k .before .c .given .0 .1 .0)
+  ate = sym (eaten .eat-next-and-advance .ensures) ∙ k .before .c .given .1
 
 -- the turn goes on
 module _ (k : tie.After-or-else Inv-loop μ-loop) where
@@ -38,21 +50,21 @@ module _ (k : tie.After-or-else Inv-loop μ-loop) where
 
 returns : tie.Need-returns Inv-loop μ-loop
 returns c =
-    let ate = c .before .before .before in
-    c .accept .ensures ∙ runs-out _ _ _ _ _ _ (ate .before .loop .inv) (sym (ate .eat-next-and-advance .ensures) ∙ c .before .enum-told .given .1)
+    let e = c .before .before .before in
+    c .accept .ensures ∙ runs-out _ _ _ _ _ _ (stands e) (sym (e .eat-next-and-advance .ensures) ∙ c .before .enum-told .given .1)
 
 returns-2 : tie.Need-returns-2 Inv-loop μ-loop
 returns-2 c =
     let held = c .before .before in
     let k = held .before .before in
-    c .accept2 .ensures ∙ closes _ _ _ _ _ _ (top k .loop .inv) (ate k) (start k .pre) (held .holds .ensures) (c .before .if1 .taken)
+    c .accept2 .ensures ∙ closes _ _ _ _ _ _ (stands (eaten k)) (ate k) (start (eaten k) .pre) (held .holds .ensures) (c .before .if1 .taken)
 
 returns-3 : tie.Need-returns-3 Inv-loop μ-loop
 returns-3 c =
     let tested = c .before in
     let k = tested .before .before .before in
     c .refuse .ensures
-    ∙ is-full _ _ _ _ _ _ (top (taken k) .loop .inv) (ate (taken k)) (start (taken k) .pre) (held k .holds .ensures) (held k .before .behind .ensures) (k .or-else .ensures) (k .before .if1 .left) refl (tested .if2 .taken)
+    ∙ is-full _ _ _ _ _ _ (stands (eaten (taken k))) (ate (taken k)) (start (eaten (taken k)) .pre) (held k .holds .ensures) (held k .before .behind .ensures) (k .or-else .ensures) (k .before .if1 .left) refl (tested .if2 .taken)
 
 returns-4 : tie.Need-returns-4 Inv-loop μ-loop
 returns-4 c =
@@ -60,20 +72,21 @@ returns-4 c =
     let fits = tested .before in
     let k = fits .before .before .before in
     c .refuse2 .ensures
-    ∙ is-too-long _ _ _ _ _ _ (top (taken k) .loop .inv) (ate (taken k)) (start (taken k) .pre) (held k .holds .ensures) (held k .before .behind .ensures) (k .or-else .ensures) (k .before .if1 .left) refl (fits .if2 .left) (sym (tested .is-over .ensures) ∙ c .before .if3 .taken)
+    ∙ is-too-long _ _ _ _ _ _ (stands (eaten (taken k))) (ate (taken k)) (start (eaten (taken k)) .pre) (held k .holds .ensures) (held k .before .behind .ensures) (k .or-else .ensures) (k .before .if1 .left) refl (fits .if2 .left) (sym (tested .is-over .ensures) ∙ c .before .if3 .taken)
 
 loop-less : tie.Need-loop-less Inv-loop μ-loop
 loop-less c =
     let fits = c .before .before in
     let k = fits .before .before .before in
-    less _ _ _ _ _ _ (top (taken k) .loop .inv) (ate (taken k)) (held k .before .behind .ensures)
+    let e = eaten (taken k) in
+    omega (arith, less _ _ _ _ _ _ (stands e) (ate (taken k)) (held k .before .behind .ensures), call e .pass .ensures .low)
 
 loop-again : tie.Need-loop-again Inv-loop μ-loop
 loop-again c =
     let tested = c .before in
     let fits = tested .before in
     let k = fits .before .before .before in
-    goes-on _ _ _ _ _ _ (top (taken k) .loop .inv) (ate (taken k)) (start (taken k) .pre) (held k .holds .ensures) (held k .before .behind .ensures) (k .or-else .ensures) (k .before .if1 .left) refl (fits .if2 .left) (sym (tested .is-over .ensures) ∙ c .if3 .left)
+    goes-on _ _ _ _ _ _ (stands (eaten (taken k))) (ate (taken k)) (start (eaten (taken k)) .pre) (held k .holds .ensures) (held k .before .behind .ensures) (k .or-else .ensures) (k .before .if1 .left) refl (fits .if2 .left) (sym (tested .is-over .ensures) ∙ c .if3 .left)
 
 pub body-of-spec : {M : Type 1} → statement M
 body-of-spec =
@@ -82,18 +95,19 @@ body-of-spec =
     Inv-loop
     μ-loop
     (λ c. begins _ _ _ _ _ _ none-is)
+    (λ c κs. c .loop .inv .has-room)
     (λ c κs. search needs)
     (λ c. search needs)
     (λ c. search needs)
     (λ c κs. search needs)
     returns
     (λ c κs. search needs)
-    (λ c κs. let k = c .before in omega (arith, held-low _ _ _ _ _ _ (top k .loop .inv) (ate k)))
+    (λ c κs. let k = c .before in omega (arith, held-low _ _ _ _ _ _ (stands (eaten k)) (ate k)))
     (λ c κs. search needs)
     returns-2
     (λ c κs. search needs)
-    (λ c. let k = c .before .before in is-behind _ _ _ _ _ _ (top (taken k) .loop .inv) (ate (taken k)) (start (taken k) .pre) (held k .holds .ensures))
-    (λ c. let k = c .before .before in is-read _ _ _ _ _ _ (top (taken k) .loop .inv) (ate (taken k)) (start (taken k) .pre) (held k .holds .ensures))
+    (λ c. let k = c .before .before in is-behind _ _ _ _ _ _ (stands (eaten (taken k))) (ate (taken k)) (start (eaten (taken k)) .pre) (held k .holds .ensures))
+    (λ c. let k = c .before .before in is-read _ _ _ _ _ _ (stands (eaten (taken k))) (ate (taken k)) (start (eaten (taken k)) .pre) (held k .holds .ensures))
     (λ c κs. search needs)
     returns-3
     (λ c κs. search needs)

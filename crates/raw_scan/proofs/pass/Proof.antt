@@ -1,0 +1,46 @@
+-- What was passed is a stretch, and a stretch leaves the answer as it is: proofs/Passing.antt.
+use Prim.Native.Nat.{ℕ, _+_, _≤_}
+use native.Mathlib.Omega.{arith}
+use mathlib.Core.Path.{refl, ap, _∙_}
+use borrow.Author.Needs.{needs}
+use Rattle.position.specs.Place.{orElse}
+use Rattle.chars.proofs.Stretches.{stretch-low}
+use Rattle.raw_scan.specs.declared.Stand.{Stand}
+use Rattle.raw_scan.proofs.Passing.{passes-none, passes-some}
+use Rattle.raw_scan.proofs.pass.Statement.{statement}
+use Rattle.raw_scan.proofs.pass.Tie as tie
+
+-- the call that passed
+module _ (k : tie.After-pass) where
+  abbrev begin : tie.Start
+  begin = k .before .before .before .before .before
+
+  abbrev s : Stand
+  s = begin .args .s
+
+  low : s .here .at + k .pass .result .count ≤ k .pass .result .at
+  low = stretch-low (k .pass .ensures .0)
+
+returns-3 : tie.Need-returns-3
+returns-3 c =
+    let first = c .before .before in
+    let some = first .before .before .before in
+    let k = some .before .before in
+    let most = k .before in
+    passes-some _ _ _ _ _ (most .most .ensures .0) (most .most .ensures .1) (omega (arith, most .before .before .if1 .left)) (k .pass .ensures .0) (k .pass .ensures .1) (some .if2 .left)
+    (first .before .before .advanced-by .ensures) (first .or-else .ensures ∙ ap (orElse _) (first .before .advanced .ensures)) refl
+
+pub pass-spec : {M : Type 1} → statement M
+pass-spec =
+    tie.close
+    (tie.spec
+    (λ c. passes-none _ _ _ _ _ (c .before .before .pre))
+    (λ c κs. search needs)
+    (λ c κs. search needs)
+    (λ c. passes-none _ _ _ _ _ (begin (c .before .before) .pre))
+    (λ c κs. search needs)
+    (λ c κs. search needs)
+    (λ c κs. search needs)
+    (λ c. omega (arith, low (c .before .before .before .before .before .before)))
+    (λ c. let k = c .before .before .before .before .before .before .before in omega (arith, k .pass .ensures .1, k .before .most .ensures .0, low k))
+    returns-3)
