@@ -1,4 +1,5 @@
 pub mod Readings
+pub mod Passing
 pub mod Limited
 pub mod Lands
 pub mod Bodies

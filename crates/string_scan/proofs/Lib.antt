@@ -1,3 +1,4 @@
 pub mod Sizes
 pub mod Turning
 pub mod Measuring
+pub mod Passing

@@ -143,6 +143,11 @@ pub fn measure(text: &[u8], from: Cursor, q: u32, limit: usize, room: usize) -> 
     let mut s = begun(start);
     let mut n = 0;
     loop {
+        let most = literal::most(limit, room, n);
+        let stood = string_take::pass(text, q, most, at, s);
+        n += stood.at - at;
+        at = stood.at;
+        s = stood.state;
         match turn(text, q, start, limit, n, at, s) {
             Turned::Over(r) => {
                 return r;

@@ -1,3 +1,4 @@
 pub mod Reaching
 pub mod Takes
+pub mod Passing
 pub mod Lands

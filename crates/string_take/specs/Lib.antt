@@ -1,3 +1,4 @@
 pub mod Kinds
 pub mod Endings
 pub mod Turns
+pub mod Passing

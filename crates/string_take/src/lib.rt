@@ -4,6 +4,7 @@ ghost use mathlib.Core.Path.{_≡_};
 ghost use Rattle.string_take.specs.Kinds.{isVerbatim, isContinued, isInterpolated};
 ghost use Rattle.string_take.specs.Endings.{once, ending, unterminatedAt};
 ghost use Rattle.string_take.specs.Turns.{isEmpty, nextIs, endOf, dollarOf, takeOf};
+ghost use Rattle.string_take.specs.Passing.{Passes};
 use chars::cursor::Cursor;
 use chars::cursor::Taken;
 use fault::Fault;
@@ -13,6 +14,10 @@ use literal::Refusal;
 use literal::Terminator;
 use position::Position;
 use utf8::Look;
+
+const LF: u32 = 0x0A;
+
+const CR: u32 = 0x0D;
 
 const QUOTE: u32 = 0x22;
 
@@ -42,6 +47,12 @@ pub struct State {
 pub enum Last {
     Good(End),
     Bad(Refusal),
+}
+
+// Where a scan stands between two turns.
+pub struct Stood {
+    pub at: usize,
+    pub state: State,
 }
 
 // The character of a turn and the cursor behind it, or how the scan is over.
@@ -186,4 +197,34 @@ pub fn take(text: &[u8], q: u32, start: Position, at: usize, s: State) -> Got
         return Got::Char(c, here);
     }
     Got::Char(c, here)
+}
+
+// Inner: passes at once what turns would only take and add, in `most` bytes at the most: with no escape pending and no white
+// space to skip, all but the terminator, a backslash, `$`, LF and CR.
+pub fn pass(text: &[u8], q: u32, most: usize, at: usize, s: State) -> Stood
+    ensures { λ r. ⌜ Passes (now (text .entry)) q most at s r ⌝ }
+{
+    if 0 < s.skip {
+        return Stood { at, state: s };
+    }
+    let escape = s.escape;
+    if escape.is_empty() {
+        let passed = chars::passing::pass(text, at, most, q, BACKSLASH, DOLLAR, LF, CR);
+        if passed.count == 0 {
+            return Stood { at, state: s };
+        }
+        let place = s.place.advanced_by(passed.count);
+        let first = s.first.or_else(s.place.advanced());
+        let state = State {
+            place,
+            first,
+            escape,
+            skip: 0,
+        };
+        return Stood {
+            at: passed.at,
+            state,
+        };
+    }
+    Stood { at, state: s }
 }

@@ -52,6 +52,20 @@ module _ (t : List ℕ) (q : ℕ) (start : Position) (w : Trace) (old out : List
   done : bytes (rest t q start at s) ≡ [] → out ≡ over (bytes w) old
   done e = sym (i .is ∙ ap (sets out n) e) ∙ sets-front old (bytes w) (i .fits)
 
+  -- some bytes were stored, and the rest is left
+  pub written-on : {next : ℕ} {r : State} (bs : List ℕ) → bytes (rest t q start at s) ≡ bs ++ bytes (rest t q start next r)
+      → {m : ℕ} {l : List ℕ} → m ≡ after out n bs → l ≡ stored out n bs → Written t q start w old l next r m
+  written-on {next} {r} bs e {m} {l} u v =
+      let b : List ℕ = bytes (rest t q start next r) in
+      let h : n + (length bs + length b) ≤ length out = rw (i .same, ← length-append bs b, ← e) (i .room) in
+      let p : Stored out n (length bs) bs m l = whole out n bs u v (omega arith) in
+      record {
+        fits = i .fits;
+        same = rw (p .memory, length-sets) (i .same);
+        room = omega (arith, p .next, i .same);
+        is = i .is ∙ rw (e, sets-append out n bs b, p .memory, p .next);
+      }
+
   module _ {x : Got} (g : x ≡ takeOf t q start at s) where
     none-left : {last : Last} → x ≡ got.Over last → bytes (rest t q start at s) ≡ []
     none-left {last} k = ap bytes (over-at-once isWhite t q start at s (sym g ∙ k)) ∙ last-bytes start last
@@ -70,16 +84,7 @@ module _ (t : List ℕ) (q : ℕ) (start : Position) (w : Trace) (old out : List
         more = ap bytes (goes-on isWhite t q start at s (sym g ∙ k) (sym f ∙ z))
 
         pub written-more : {m : ℕ} {l : List ℕ} → m ≡ after out n (encoded d) → l ≡ stored out n (encoded d) → Written t q start w old l next r m
-        written-more {m} {l} u v =
-            let b : List ℕ = bytes (rest t q start next r) in
-            let h : n + (length (encoded d) + length b) ≤ length out = rw (i .same, ← length-append (encoded d) b, ← more) (i .room) in
-            let p : Stored out n (length (encoded d)) (encoded d) m l = whole out n (encoded d) u v (omega arith) in
-            record {
-              fits = i .fits;
-              same = rw (p .memory, length-sets) (i .same);
-              room = omega (arith, p .next, i .same);
-              is = i .is ∙ rw (more, sets-append out n (encoded d) b, p .memory, p .next);
-            }
+        written-more u v = written-on (encoded d) more u v
 
 -- the loop is over: the memory is as it is to be
 module _ (t : List ℕ) (q : ℕ) (from : Cursor) {b : State} (e : b ≡ begun (from .place)) {old out : List ℕ} {at : ℕ} {s : State} {n : ℕ}

@@ -1,8 +1,8 @@
 // The body of a string literal, written into lent bytes: the characters that the scan adds.
 ghost use mathlib.Core.Path.{_≡_};
-ghost use Prim.Native.Nat.{_≤_};
-ghost use lib.ListN.{length};
-ghost use Rattle.basis.specs.Store.{over};
+ghost use Prim.Native.Nat.{_-_, _≤_, _<_};
+ghost use lib.ListN.{length, take, drop};
+ghost use Rattle.basis.specs.Store.{stored, after, over};
 ghost use Rattle.white.specs.White.{isWhite};
 ghost use Rattle.literal.specs.Trace.{bytes};
 ghost use Rattle.string_reading.specs.Scans.{begun, readingOf};
@@ -25,6 +25,18 @@ fn begun(place: Position) -> State
     }
 }
 
+// Copies what stands in the text from one offset to another.
+fn copy(text: &[u8], at: usize, to: usize, out: &mut [u8], n: usize) -> usize
+    requires { ⌜ (at < to → to ≤ length (now text)) ⌝ }
+    ensures { λ r. ⌜ r ≡ after (now (out .entry)) n (take (to - at) (drop at (now (text .entry)))) ⌝ }
+    ensures { λ r. ⌜ now (out .exit) ≡ stored (now (out .entry)) n (take (to - at) (drop at (now (text .entry)))) ⌝ }
+{
+    if at < to {
+        return lent::copy(&text[at..to], out, n);
+    }
+    n
+}
+
 // Inner: writes the body of a literal that was measured and accepted.
 pub fn write(text: &[u8], from: Cursor, q: u32, out: &mut [u8])
     requires { ⌜ length (bytes (readingOf isWhite (now text) q from)) ≤ length (now out) ⌝ }
@@ -35,6 +47,10 @@ pub fn write(text: &[u8], from: Cursor, q: u32, out: &mut [u8])
     let mut s = begun(start);
     let mut n = 0;
     loop {
+        let stood = string_take::pass(text, q, text.len(), at, s);
+        n = copy(text, at, stood.at, &mut *out, n);
+        at = stood.at;
+        s = stood.state;
         let Got::Char(c, here) = string_take::take(text, q, start, at, s) else {
             return;
         };

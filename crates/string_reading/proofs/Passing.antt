@@ -1,0 +1,87 @@
+-- Plain characters of a string literal: a turn takes one, tests the limit and adds it, and nothing else. Many of them at once, by the law of stretches. Assumes nothing.
+use Prim.Native.Nat.{ℕ, _+_, _≤_}
+use native.Mathlib.Omega.{arith}
+use mathlib.Core.Bool.{Bool, true, false}
+use mathlib.Core.List.{List}
+use mathlib.Core.Path.{_≡_, refl, sym, ap, _∙_}
+use borrow.Author.Tests.{le-ltb}
+use Rattle.basis.specs.Pick.{pick, both}
+use Rattle.basis.proofs.Cases.{both-no}
+use Rattle.position.specs.declared.Position.{Position}
+use Rattle.position.specs.Place.{orElse, advanced, advancedBy}
+use Rattle.position.proofs.Moves.{firstBy, advanced-by-none, advanced-by-more, first-by-none, first-by-more, first-by-some}
+use Rattle.utf8.specs.Table.{lookAt}
+use Rattle.utf8.specs.Encode.{encoded}
+use Rattle.utf8.specs.declared.Look.the-variants.{Char}
+use Rattle.chars.specs.Cursors.{cursor}
+use Rattle.chars.specs.Scan.{runAt}
+use Rattle.chars.specs.declared.cursor.Cursor.{Cursor}
+use Rattle.chars.proofs.Cursors.{ate}
+use Rattle.chars.proofs.Stretches.{is-other}
+use Rattle.literal.specs.Trace.{Trace, adds, checks}
+use Rattle.string_take.specs.Kinds.{lf, cr, dollar, backslash, isInterpolated}
+use Rattle.string_take.specs.Endings.{once}
+use Rattle.string_take.specs.Turns.{state, isEmpty, dollarOf, takeOf}
+use Rattle.string_take.specs.Passing.{Plain}
+use Rattle.string_take.specs.declared.Pending.{Pending}
+use Rattle.string_take.specs.declared.Pending.the-variants.{Empty}
+use Rattle.string_take.specs.declared.State.{State}
+use Rattle.string_take.specs.declared.Got.{Got}
+use Rattle.string_take.specs.declared.Got.the-variants as got
+use Rattle.string_act.specs.Turns.{columnOf, closeOf, addOf, plainOf, otherOf, matchOf, actOf}
+use Rattle.string_act.specs.declared.Step.the-variants as step
+use Rattle.string_reading.specs.Ends.{tooLongAt}
+use Rattle.string_reading.specs.Scans.{rule}
+use Rattle.string_reading.proofs.Readings.{goes-on}
+
+either-way : {A : Type 0} (b : Bool) (x : A) {y : A} → y ≡ x → pick b y x ≡ x
+either-way true x e = e
+either-way false x e = refl
+
+-- the state with no escape pending and nothing to skip
+pub settled : (s : State) → s .escape ≡ Empty → s .skip ≡ 0 → s ≡ state (s .place) (s .first) Empty 0
+settled s e z = ap (λ (x : Pending). state (s .place) (s .first) x (s .skip)) e ∙ ap (λ (m : ℕ). state (s .place) (s .first) Empty m) z
+
+module _ (white : ℕ → Bool) (t : List ℕ) (q : ℕ) (start : Position) where
+  -- ---- one of them
+  module _ (p f : Position) (b : ℕ) {c w : ℕ} (e : lookAt t b ≡ Char c w) (y : Plain q c) where
+    abbrev here : State
+    here = state p f Empty 0
+
+    abbrev next : Cursor
+    next = cursor (b + w) (advanced p)
+
+    abbrev then : State
+    then = state (advanced p) (orElse f (advanced p)) Empty 0
+
+    taken : takeOf t q start b here ≡ got.Char c next
+    unfolding takeOf dollarOf
+    taken =
+        let n = is-other q backslash dollar lf cr c y in
+        rw (ate t (cursor b p) e) (either-way (both (isInterpolated q) (isEmpty Empty)) (got.Char c next) {y = dollarOf t c next f} (rw (n .2, n .1)))
+
+    acted : actOf white t q start c next here ≡ step.Go c (b + w) then
+    unfolding actOf closeOf matchOf otherOf plainOf addOf
+    acted =
+        let n = is-other q backslash dollar lf cr c y in
+        rw (n .0, n .4, n .3, n .1, both-no, le-ltb (columnOf (advanced p)) 0 (omega arith), both-no)
+
+    one-plain : runAt (rule white t q start) t b here ≡ checks (tooLongAt start next (once q)) (adds (encoded c) (runAt (rule white t q start) t (b + w) then))
+    one-plain = goes-on white t q start b here taken acted
+
+  -- ---- all of them
+  module _ (p f : Position) where
+    -- behind k characters
+    abbrev pub after : ℕ → State
+    after k = state (advancedBy k p) (firstBy k f p) Empty 0
+
+    pub after-none : after 0 ≡ state p f Empty 0
+    after-none = rw (advanced-by-none p, first-by-none f p)
+
+    pub after-some : (k : ℕ) → (k ≡ 0 → ⊥) → after k ≡ state (advancedBy k p) (orElse f (advanced p)) Empty 0
+    after-some k n = rw (first-by-some f p k n)
+
+    pub one-after : (k b : ℕ) {c w : ℕ} → lookAt t b ≡ Char c w → Plain q c
+        → runAt (rule white t q start) t b (after k)
+        ≡ checks (tooLongAt start (cursor (b + w) (advanced (advancedBy k p))) (once q)) (adds (encoded c) (runAt (rule white t q start) t (b + w) (after (k + 1))))
+    one-after k b e y = rw (advanced-by-more k p, ← first-by-more f p k) (one-plain (advancedBy k p) (firstBy k f p) b e y)

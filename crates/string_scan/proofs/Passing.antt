@@ -1,0 +1,73 @@
+-- Plain characters measured at once, where neither the limit nor the room is in the way. Assumes nothing.
+use Prim.Native.Nat.{ℕ, _+_, _-_, _≤_, _<_}
+use native.Mathlib.Omega.{arith}
+use mathlib.Core.Bool.{false}
+use mathlib.Core.List.{List}
+use mathlib.Core.Path.{_≡_, refl, sym, ap, _∙_}
+use lib.ListN.{length}
+use Rattle.position.specs.declared.Position.{Position}
+use Rattle.utf8.specs.Table.{lookAt}
+use Rattle.utf8.specs.Encode.{encoded}
+use Rattle.utf8.specs.declared.Look.the-variants.{Char}
+use Rattle.utf8.proofs.Encodes.{encoded-scalar}
+use Rattle.utf8.proofs.Laws.{at-width}
+use Rattle.utf8.proofs.Unicode.{size-width, code-scalar}
+use Rattle.white.specs.White.{isWhite}
+use Rattle.chars.specs.Stretch.{Stretch}
+use Rattle.chars.specs.declared.cursor.Cursor.{Cursor}
+use Rattle.chars.proofs.Stretches as stretches
+use Rattle.chars.proofs.Stretches.{stretched, stretch-low}
+use Rattle.literal.specs.Trace.{Trace, passes}
+use Rattle.literal.specs.Cut.{cut}
+use Rattle.literal.specs.declared.Refusal.{Refusal}
+use Rattle.literal.specs.declared.Scanned.{Scanned}
+use Rattle.literal.proofs.Within.{tests-within}
+use Rattle.string_take.specs.Turns.{state}
+use Rattle.string_take.specs.Passing.{Plain, Passes, none, some}
+use Rattle.string_take.specs.declared.Pending.the-variants.{Empty}
+use Rattle.string_take.specs.declared.State.{State}
+use Rattle.string_take.specs.declared.Stood.{Stood}
+use Rattle.string_reading.specs.Ends.{fullAt}
+use Rattle.string_reading.specs.Scans.{rule, rest}
+use Rattle.string_reading.proofs.Passing.{settled, after, after-none, after-some, one-after}
+use Rattle.string_scan.proofs.Measuring.{Measured}
+
+-- a character's bytes in the body are as many as in the text
+same-size : (t : List ℕ) (b : ℕ) {c w : ℕ} → lookAt t b ≡ Char c w → length (encoded c) ≡ w
+same-size t b {c} e = rw (encoded-scalar c (code-scalar t b e)) (size-width t b e)
+
+module _ (t : List ℕ) (from : Cursor) (q limit room most at n : ℕ) (p f : Position) (g : n + most ≤ room) (o : 0 < most → passes limit (n + most) ≡ false) (full : Refusal) where
+  abbrev view : ℕ → Trace → Scanned
+  view b r = cut full limit room (n + (b - at)) r
+
+  one-passed : (k b c w : ℕ) → at ≤ b → b + w ≤ at + most → lookAt t b ≡ Char c w → Plain q c → stretches.Plain (rule isWhite t q (from .place)) t (after isWhite t q (from .place) p f) view k b w
+  one-passed k b c w l h e y =
+      let z : b + w - at ≡ b - at + w = omega arith in
+      ap (view b) (one-after isWhite t q (from .place) p f k b e y)
+      ∙ rw z (tests-within full limit room n most g o (b - at) w (at-width t b e .0) (omega arith) (encoded c) (same-size t b e) _ _)
+
+  all-passed : {k b : ℕ} → Stretch t (Plain q) at k b → b ≤ at + most
+      → cut full limit room n (rest t q (from .place) at (state p f Empty 0)) ≡ cut full limit room (n + (b - at)) (rest t q (from .place) b (after isWhite t q (from .place) p f k))
+  all-passed {k} {b} x l =
+      let z : n ≡ n + (at - at) = omega arith in
+      ap (λ (m : ℕ). cut full limit room m (rest t q (from .place) at (state p f Empty 0))) z
+      ∙ ap (λ (s : State). view at (rest t q (from .place) at s)) (sym (after-none isWhite t q (from .place) p f))
+      ∙ stretched (rule isWhite t q (from .place)) t (after isWhite t q (from .place) p f) view (Plain q) at (at + most) one-passed x l
+
+module _ (t : List ℕ) (from : Cursor) (q limit room : ℕ) {at : ℕ} {s : State} {n most : ℕ} (i : Measured t from q limit room at s n) (g : n + most ≤ room) (o : 0 < most → passes limit (n + most) ≡ false) where
+  pub passed-low : {r : Stood} → Passes t q most at s r → (at ≤ r .at) × (r .at ≤ at + most)
+  passed-low none = (omega arith, omega arith)
+  passed-low (some e z x l y h) = (omega (arith, stretch-low x), l)
+
+  pub measured-passed : {r : Stood} → Passes t q most at s r → Measured t from q limit room (r .at) (r .state) (n + (r .at - at))
+  measured-passed none =
+      let z : n + (at - at) ≡ n = omega arith in
+      rw z i
+  measured-passed (some {k} {b} {r} e z x l y h) =
+      let low = stretch-low x in
+      record {
+        within = omega (arith, g, l, low);
+        is = i .is
+            ∙ ap (λ (u : State). cut (fullAt from) limit room n (rest t q (from .place) at u)) (settled s e z)
+            ∙ rw (h, ← after-some isWhite t q (from .place) (s .place) (s .first) k y) (all-passed t from q limit room most at n (s .place) (s .first) g o (fullAt from) x l);
+      }

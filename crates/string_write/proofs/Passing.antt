@@ -1,0 +1,106 @@
+-- Plain characters written at once: they stand in the text as in the body. Assumes nothing.
+use Prim.Native.Nat.{ℕ, zero, suc, _+_, _-_, _≤_, _<_}
+use native.Mathlib.Omega.{arith}
+use native.Mathlib.Nat.{zero-add, add-zero, suc-add}
+use mathlib.Core.Bool.{Bool, true, false}
+use mathlib.Core.List.{List, [], _∷_, _++_, append-assoc}
+use mathlib.Core.Path.{_≡_, refl, sym, ap, _∙_}
+use lib.ListN.{length, take, drop}
+use lib.Seq.{drop-drop}
+use Rattle.basis.specs.Pick.{pick}
+use Rattle.basis.specs.Store.{fits, stored, after}
+use Rattle.position.specs.declared.Position.{Position}
+use Rattle.utf8.specs.Table.{lookAt}
+use Rattle.utf8.specs.Encode.{encoded}
+use Rattle.utf8.specs.declared.Look.the-variants.{Char}
+use Rattle.utf8.proofs.Encodes.{encoded-scalar}
+use Rattle.utf8.proofs.Unicode.{code-scalar, look-scalar-bytes}
+use Rattle.white.specs.White.{isWhite}
+use Rattle.chars.specs.Stretch.{Stretch}
+use Rattle.chars.proofs.Stretches as stretches
+use Rattle.chars.proofs.Stretches.{stretched, stretch-low, stretch-within}
+use Rattle.literal.specs.Trace.{Trace, adds, checks, bytes}
+use Rattle.literal.specs.declared.Refusal.{Refusal}
+use Rattle.string_take.specs.Turns.{state}
+use Rattle.string_take.specs.Passing.{Plain, Passes, none, some}
+use Rattle.string_take.specs.declared.Pending.the-variants.{Empty}
+use Rattle.string_take.specs.declared.State.{State}
+use Rattle.string_take.specs.declared.Stood.{Stood}
+use Rattle.string_reading.specs.Scans.{rule, rest}
+use Rattle.string_reading.proofs.Passing.{settled, one-after, after-none, after-some}
+use Rattle.string_reading.proofs.Passing as passing
+use Rattle.string_write.proofs.Writing.{Written, written-on}
+
+-- ---- parts of a text
+take-nil : (w : ℕ) → take {A = ℕ} w [] ≡ []
+take-nil zero = refl
+take-nil (suc w) = refl
+
+take-more : (i w : ℕ) (l : List ℕ) → take (i + w) l ≡ take i l ++ take w (drop i l)
+take-more zero w l = rw (zero-add w)
+take-more (suc i) w [] = rw (suc-add i w) (sym (take-nil w))
+take-more (suc i) w (x ∷ l) = rw (suc-add i w) (ap (λ (m : List ℕ). x ∷ m) (take-more i w l))
+
+abbrev pub part : List ℕ → ℕ → ℕ → List ℕ
+part t at to = take (to - at) (drop at t)
+
+part-none : (t : List ℕ) (at to : ℕ) → to ≤ at → part t at to ≡ []
+part-none t at to h = let z : to - at ≡ 0 = omega arith in rw z
+
+-- nothing is copied
+same-either-way : {A : Type 0} (b : Bool) (x : A) → x ≡ pick b x x
+same-either-way true x = refl
+same-either-way false x = refl
+
+pub after-nothing : (t out : List ℕ) (at to n : ℕ) → to ≤ at → n ≡ after out n (part t at to)
+unfolding after
+after-nothing t out at to n h = rw (part-none t at to h, add-zero n) (same-either-way (fits out n []) n)
+
+pub stored-nothing : (t out : List ℕ) (at to n : ℕ) → to ≤ at → out ≡ stored out n (part t at to)
+unfolding stored
+stored-nothing t out at to n h = rw (part-none t at to h) (same-either-way (fits out n []) out)
+
+part-char : (t : List ℕ) (at b : ℕ) {c w : ℕ} → at ≤ b → lookAt t b ≡ Char c w → part t at b ++ encoded c ≡ part t at (b + w)
+part-char t at b {c} {w} h e =
+    let z : b + w - at ≡ b - at + w = omega arith in
+    let y : at + (b - at) ≡ b = omega arith in
+    rw (z, take-more (b - at) w (drop at t), drop-drop (b - at) at t, y, look-scalar-bytes t b e, encoded-scalar c (code-scalar t b e))
+
+-- ---- the bytes of what was passed
+module _ (t : List ℕ) (q : ℕ) (start : Position) (at : ℕ) where
+  abbrev view : ℕ → Trace → List ℕ
+  view b r = part t at b ++ bytes r
+
+  read : (b c : ℕ) (f : Refusal) (r : Trace) → view b (checks f (adds (encoded c) r)) ≡ (part t at b ++ encoded c) ++ bytes r
+  unfolding bytes
+  read b c f r = sym (append-assoc (part t at b) (encoded c) (bytes r))
+
+  module _ (p f : Position) where
+    abbrev after′ : ℕ → State
+    after′ k = passing.after isWhite t q start p f k
+
+    one-passed : (k b c w : ℕ) → at ≤ b → lookAt t b ≡ Char c w → Plain q c → stretches.Plain (rule isWhite t q start) t after′ view k b w
+    one-passed k b c w h e y =
+        ap (view b) (one-after isWhite t q start p f k b e y) ∙ read b c _ _ ∙ ap (λ (l : List ℕ). l ++ bytes (rest t q start (b + w) (after′ (k + 1)))) (part-char t at b h e)
+
+    all-passed : {k b : ℕ} → Stretch t (Plain q) at k b → bytes (rest t q start at (state p f Empty 0)) ≡ part t at b ++ bytes (rest t q start b (after′ k))
+    all-passed {k} {b} x =
+        ap (λ (l : List ℕ). l ++ bytes (rest t q start at (state p f Empty 0))) (sym (part-none t at at (omega arith)))
+        ∙ ap (λ (s : State). view at (rest t q start at s)) (sym (after-none isWhite t q start p f))
+        ∙ stretched (rule isWhite t q start) t after′ view (Plain q) at b (λ k b c w h l. one-passed k b c w h) x (omega arith)
+
+  module _ {most : ℕ} {s : State} where
+    pub passed-low : {r : Stood} → Passes t q most at s r → (at ≤ r .at) × (at < r .at → r .at ≤ length t)
+    passed-low none = (omega arith, λ h. absurd (omega arith))
+    passed-low (some e z x l y h) = (omega (arith, stretch-low x), λ g. stretch-within x g)
+
+    pub passed-bytes : {r : Stood} → Passes t q most at s r → bytes (rest t q start at s) ≡ part t at (r .at) ++ bytes (rest t q start (r .at) (r .state))
+    passed-bytes none = rw (part-none t at at (omega arith))
+    passed-bytes (some {k} {b} {r} e z x l y h) =
+        ap (λ (u : State). bytes (rest t q start at u)) (settled s e z) ∙ rw (h, ← after-some isWhite t q start (s .place) (s .first) k y) (all-passed (s .place) (s .first) x)
+
+-- ---- the loop
+module _ (t : List ℕ) (q : ℕ) (start : Position) (w : Trace) (old out : List ℕ) (at : ℕ) (s : State) (n : ℕ) (i : Written t q start w old out at s n) where
+  pub written-passed : {most : ℕ} {r : Stood} → Passes t q most at s r → {m : ℕ} {l : List ℕ} → m ≡ after out n (part t at (r .at)) → l ≡ stored out n (part t at (r .at))
+      → Written t q start w old l (r .at) (r .state) m
+  written-passed {most} {r} x u v = written-on t q start w old out at s n i (part t at (r .at)) (passed-bytes t q start at x) u v
