@@ -6,6 +6,7 @@ pub mod Decodes
 pub mod Finds
 pub mod Bits
 pub mod Laws
+pub mod Widths
 pub mod Edges
 pub mod Unicode
 pub mod Examples

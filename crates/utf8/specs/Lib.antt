@@ -1,4 +1,5 @@
 pub mod Table
 pub mod Encode
 pub mod Bits
+pub mod Widths
 pub mod Unicode

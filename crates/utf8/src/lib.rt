@@ -6,6 +6,7 @@ ghost use lib.ListN.{length, drop};
 ghost use Rattle.utf8.specs.Table.{look, lookAt};
 ghost use Rattle.utf8.specs.Encode.{isScalar};
 ghost use Rattle.utf8.specs.Bits.{bitsOf, joinedOf, sizedOf};
+ghost use Rattle.utf8.specs.Widths.{widthOf};
 
 // The character that begins at an offset: its code point and its width in bytes; End where none does.
 pub enum Look {
@@ -60,8 +61,8 @@ fn sized(text: &[u8], at: usize, n: usize, first: u32, least: u32) -> Look
     Look::End
 }
 
-// Inner: the character at an offset whose byte, a, is above 7F: Table 3-6 read backwards. It has two callers, so that the compiler keeps it apart and `look_at` small.
-pub fn longer(text: &[u8], at: usize, a: u32) -> Look
+// The character at an offset whose byte, a, is above 7F: Table 3-6 read backwards. It has two callers, `look_at` and `width`, so that the compiler keeps it apart and those two small.
+fn longer(text: &[u8], at: usize, a: u32) -> Look
     requires { ⌜ (at < length (now text)) × (0x80 ≤ a) ⌝ }
     ensures { λ r. ⌜ r ≡ look (a ∷ drop (at + 1) (now (text .entry))) ⌝ }
 {
@@ -78,6 +79,26 @@ pub fn longer(text: &[u8], at: usize, a: u32) -> Look
         return sized(text, at, 3, a - 0xF0, 0x10000);
     }
     Look::End
+}
+
+// Inner: the width of the character at an offset whose byte, a, is above 7F; 0 where none begins. Two bytes are seen at once.
+pub fn width(text: &[u8], at: usize, a: u32) -> usize
+    requires { ⌜ (at < length (now text)) × (0x80 ≤ a) ⌝ }
+    ensures { λ r. ⌜ r ≡ widthOf (look (a ∷ drop (at + 1) (now (text .entry)))) ⌝ }
+{
+    if a < 0xE0 {
+        if a < 0xC2 {
+            return 0;
+        }
+        if 63 < bits_at(text, at + 1) {
+            return 0;
+        }
+        return 2;
+    }
+    let Look::Char(_, w) = longer(text, at, a) else {
+        return 0;
+    };
+    w
 }
 
 // The character at an offset; End also past the end.

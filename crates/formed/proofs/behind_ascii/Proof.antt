@@ -1,8 +1,7 @@
--- Each way out by its law.
+-- Behind the block that was found, or behind the one byte that is known.
 use native.Mathlib.Omega.{arith}
-use mathlib.Core.Path.{_≡_, sym, _∙_}
 use borrow.Author.Needs.{needs}
-use Rattle.formed.proofs.Blocks.{behind-byte, behind-last, behind-block, behind-other}
+use Rattle.formed.proofs.Blocks.{one-ascii}
 use Rattle.formed.proofs.behind_ascii.Statement.{statement}
 use Rattle.formed.proofs.behind_ascii.Tie as tie
 
@@ -11,12 +10,12 @@ behind-ascii-spec =
     tie.close
     (tie.spec
     (λ c. search needs)
-    (λ c. behind-byte _ _ (c .if1 .taken))
+    (λ c. let pre = c .before .before .pre in (omega arith, one-ascii _ _ (pre .0) (pre .1)))
+    (λ c κs. omega (arith, c .before .before .pre .0))
+    (λ c. omega (arith, c .before .is-ascii .ensures (c .if2 .taken) .ends))
+    (λ c. (omega arith, c .before .is-ascii .ensures (c .if2 .taken)))
+    (λ c κs. omega (arith, c .before .before .before .before .pre .0))
+    (λ c. omega (arith, c .before .is-ascii2 .ensures (c .if3 .taken) .ends))
+    (λ c. (omega arith, c .before .is-ascii2 .ensures (c .if3 .taken)))
     (λ c. search needs)
-    (λ c. search needs)
-    (λ c. behind-last _ _ (c .before .if1 .left) (c .if2 .taken))
-    (λ c κs. omega arith)
-    (λ c. search needs)
-    (λ c. behind-block _ _ (c .before .before .before .if1 .left) (c .before .before .if2 .left) (sym (c .before .is-ascii-block .ensures) ∙ c .if3 .taken))
-    (λ c. search needs)
-    (λ c. behind-other _ _ (c .before .before .before .if1 .left) (c .before .before .if2 .left) (sym (c .before .is-ascii-block .ensures) ∙ c .if3 .left)))
+    (λ c. let pre = c .before .before .before .before .before .before .pre in (omega arith, one-ascii _ _ (pre .0) (pre .1))))
