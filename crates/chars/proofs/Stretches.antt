@@ -6,13 +6,14 @@ use mathlib.Core.List.{List, _∷_}
 use mathlib.Core.Path.{_≡_, refl, ap, _∙_}
 use lib.Dec.{eqb}
 use lib.ListN.{length}
+use borrow.Author.Tests.{ne-eqb}
 use Rattle.basis.specs.Pick.{either}
 use Rattle.basis.proofs.Cases.{not-both}
 use Rattle.utf8.specs.Table.{ch, charsAt, lookAt}
 use Rattle.utf8.specs.declared.Look.the-variants.{Char}
 use Rattle.utf8.proofs.Laws.{at-width}
 use Rattle.chars.specs.Scan.{go, Rule, runAt}
-use Rattle.chars.specs.Stretch.{Stretch, none, more, among, Other}
+use Rattle.chars.specs.Stretch.{Stretch, none, more, among, Low, High, Other}
 use Rattle.chars.proofs.Scans.{move-on, one-on}
 
 -- ---- how far a stretch goes
@@ -66,3 +67,15 @@ is-other a b d e f c h =
     let z = neither (eqb c d) _ (y .1) in
     let u = neither (eqb c e) (eqb c f) (z .1) in
     (x .0, y .0, z .0, u .0, u .1)
+
+-- a longer character is none of five that are ASCII
+pub high-other : (a b d e f c : ℕ) → Low a b d e f → High c → Other a b d e f c
+unfolding among
+high-other a b d e f c l h =
+    rw (
+      ne-eqb c a (λ q. omega arith),
+      ne-eqb c b (λ q. omega arith),
+      ne-eqb c d (λ q. omega arith),
+      ne-eqb c e (λ q. omega arith),
+      ne-eqb c f (λ q. omega arith),
+    )

@@ -1,5 +1,5 @@
 -- Stretches: characters of one class that stand one behind the other, which a scanner may pass at once.
-use Prim.Native.Nat.{ℕ, _+_, _≤_}
+use Prim.Native.Nat.{ℕ, _+_, _≤_, _<_}
 use mathlib.Core.Bool.{Bool, false}
 use mathlib.Core.List.{List}
 use mathlib.Core.Path.{_≡_}
@@ -24,6 +24,14 @@ pub record Next (t : List ℕ) (of : ℕ → Type 0) (at stop w : ℕ) : Type 0 
 unfoldable pub among : ℕ → ℕ → ℕ → ℕ → ℕ → ℕ → Bool
 among a b d e f c = either (eqb c a) (either (eqb c b) (either (eqb c d) (either (eqb c e) (eqb c f))))
 
--- it is none of them
+-- all five are ASCII
+abbrev pub Low : ℕ → ℕ → ℕ → ℕ → ℕ → Type 0
+Low a b d e f = (a < 0x80) × (b < 0x80) × (d < 0x80) × (e < 0x80) × (f < 0x80)
+
+-- a character that is not
+abbrev pub High : ℕ → Type 0
+High c = 0x80 ≤ c
+
+-- it is none of the five
 abbrev pub Other : ℕ → ℕ → ℕ → ℕ → ℕ → ℕ → Type 0
 Other a b d e f c = among a b d e f c ≡ false

@@ -1,8 +1,8 @@
 // Passing many characters at once, for the scanners: those that a scanner takes one by one in the same way.
 ghost use mathlib.Core.Path.{_≡_};
 ghost use Prim.Native.Nat.{_+_, _≤_, _<_};
-ghost use Rattle.chars.specs.Stretch.{Stretch, Next, among, Other};
-use utf8::Look;
+ghost use lib.ListN.{length, getD};
+ghost use Rattle.chars.specs.Stretch.{Stretch, Next, among, Low, High, Other};
 
 // The offset behind what was passed, and how many characters that is.
 pub struct Passed {
@@ -42,25 +42,21 @@ fn last(len: usize, from: usize, most: usize) -> usize
     len
 }
 
-// The width of the character at an offset, if it is none of five and ends by `stop`; else 0.
-fn width(text: &[u8], at: usize, stop: usize, a: u32, b: u32, d: u32, e: u32, f: u32) -> usize
-    requires { ⌜ at ≤ stop ⌝ }
-    ensures { λ r. ⌜ ((r ≡ 0 → ⊥) → Next (now (text .entry)) (Other a b d e f) at stop r) ⌝ }
+// The width of the character at an offset whose byte, x, is above 7F, if it ends by `stop`; else 0.
+fn width(text: &[u8], at: usize, x: u32, stop: usize) -> usize
+    requires { ⌜ (at < length (now text)) × (x ≡ getD (now text) at 0) × (0x80 ≤ x) × (at ≤ stop) ⌝ }
+    ensures { λ r. ⌜ ((r ≡ 0 → ⊥) → Next (now (text .entry)) High at stop r) ⌝ }
 {
-    let Look::Char(c, w) = utf8::look_at(text, at) else {
-        return 0;
-    };
+    let w = utf8::width(text, at, x);
     if stop - at < w {
-        return 0;
-    }
-    if is_among(c, a, b, d, e, f) {
         return 0;
     }
     w
 }
 
-// Passes the characters that are none of five, in `most` bytes at the most. Most of them are one byte, which is seen at once.
+// Passes the characters that are none of five, in `most` bytes at the most. The five are ASCII, so a longer character is none of them.
 pub fn pass(text: &[u8], from: usize, most: usize, a: u32, b: u32, d: u32, e: u32, f: u32) -> Passed
+    requires { ⌜ Low a b d e f ⌝ }
     ensures { λ r. ⌜ Stretch (now (text .entry)) (Other a b d e f) from (r .count) (r .at) ⌝ }
     ensures { λ r. ⌜ r .at ≤ from + most ⌝ }
 {
@@ -78,7 +74,7 @@ pub fn pass(text: &[u8], from: usize, most: usize, a: u32, b: u32, d: u32, e: u3
             }
             at += 1;
         } else {
-            let w = width(text, at, stop, a, b, d, e, f);
+            let w = width(text, at, x, stop);
             if w == 0 {
                 return Passed {
                     at,

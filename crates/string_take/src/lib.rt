@@ -200,11 +200,15 @@ pub fn take(text: &[u8], q: u32, start: Position, at: usize, s: State) -> Got
 }
 
 // Inner: passes at once what turns would only take and add, in `most` bytes at the most: with no escape pending and no white
-// space to skip, all but the terminator, a backslash, `$`, LF and CR.
+// space to skip, all but the terminator, a backslash, `$`, LF and CR. The terminators are ASCII; by any other number nothing
+// is passed.
 pub fn pass(text: &[u8], q: u32, most: usize, at: usize, s: State) -> Stood
     ensures { λ r. ⌜ Passes (now (text .entry)) q most at s r ⌝ }
 {
     if 0 < s.skip {
+        return Stood { at, state: s };
+    }
+    if 0x7F < q {
         return Stood { at, state: s };
     }
     let escape = s.escape;

@@ -9,8 +9,8 @@ use Rattle.utf8.specs.Table.{lookAt}
 use Rattle.utf8.specs.declared.Look.the-variants.{Char}
 use Rattle.utf8.proofs.Bits.{look-ascii}
 use Rattle.utf8.proofs.Laws.{at-width}
-use Rattle.chars.specs.Stretch.{Stretch, none, Next, Other}
-use Rattle.chars.proofs.Stretches.{one-more, no-more}
+use Rattle.chars.specs.Stretch.{Stretch, none, Next, High, Other}
+use Rattle.chars.proofs.Stretches.{one-more, no-more, high-other}
 use Rattle.chars.proofs.passing.pass.Statement.{statement}
 use Rattle.chars.proofs.passing.pass.Tie as tie
 
@@ -48,7 +48,7 @@ module _ (w : tie.After-width Inv-loop μ-loop) where
   top = w .before .before .before .before
 
   module _ (n : w .width .result ≡ 0 → ⊥) where
-    next : Next (text top) (Other (begin top .args .a) (begin top .args .b) (begin top .args .d) (begin top .args .e) (begin top .args .f)) (at top) (stop top) (w .width .result)
+    next : Next (text top) High (at top) (stop top) (w .width .result)
     next = w .width .ensures n
 
     some : 1 ≤ w .width .result
@@ -72,7 +72,7 @@ loop-again-2 c =
     let i = top w .loop .inv in
     let x = next w (c .if3 .left) in
     let s = some w (c .if3 .left) in
-    (one-more (i .0) (x .found) (x .is) (omega (arith, i .1, s)), omega (arith, i .1, s), x .fits)
+    (one-more (i .0) (x .found) (high-other _ _ _ _ _ _ (begin (top w) .pre) (x .is)) (omega (arith, i .1, s)), omega (arith, i .1, s), x .fits)
 
 pub pass-spec : {M : Type 1} → statement M
 pass-spec =
@@ -91,7 +91,7 @@ pass-spec =
     (λ c. let k = c .before .before .before .before .before in omega (arith, inside k (c .before .before .before .before .loop-test .taken)))
     (λ c. omega (arith, c .before .before .before .before .loop-test .taken))
     loop-again
-    (λ c κs. c .before .before .before .loop .inv .2)
+    (λ c κs. let test = c .before .before in (inside (test .before) (test .loop-test .taken), refl, c .if1 .left, test .before .loop .inv .2))
     (λ c. omega (arith, top (c .before) .loop .inv .1))
     (λ c. omega (arith, top (c .before) .loop .inv .1))
     (λ c. gives (top (c .before)))
