@@ -1,19 +1,26 @@
 -- Where a stretch ends, for each way through the loop. Assumes nothing.
+use Prim.Native.Char.{code}
 use Prim.Native.Nat.{ℕ, _+_, _≤_, _<_}
 use native.Mathlib.Omega.{arith}
 use mathlib.Core.Bool.{Bool, true, false}
 use mathlib.Core.List.{List, _∷_}
+use mathlib.Core.Logic.{⊎-elim}
 use mathlib.Core.Path.{_≡_, refl, sym, ap, _∙_}
-use lib.ListN.{length}
+use lib.ListN.{length, getD}
 use borrow.Author.Tests.{eq-eqb, ne-eqb}
+use Rattle.basis.proofs.Bounds.{split}
+use Rattle.basis.proofs.Cases.{not-both}
 use Rattle.position.specs.declared.Position.{Position}
 use Rattle.position.specs.Place.{advanced, advancedBy}
 use Rattle.position.proofs.Moves.{advanced-by-none, advanced-by-more}
-use Rattle.utf8.specs.Table.{lookAt}
+use Rattle.utf8.specs.Table.{_‥_, lookAt}
 use Rattle.utf8.specs.declared.Look.{Look}
 use Rattle.utf8.specs.declared.Look.the-variants as look
+use Rattle.utf8.proofs.Ranges.{is-above}
+use Rattle.utf8.proofs.Bits.{look-ascii}
 use Rattle.utf8.proofs.Laws.{at-width, by-chars}
-use Rattle.classes.specs.Class.{isIdContinue}
+use Rattle.utf8.proofs.Widths.{at-high}
+use Rattle.classes.specs.Class.{isNumericDigit, isIdFirstAlphabetic, isIdContinue}
 use Rattle.chars.specs.Cursors.{cursor}
 use Rattle.chars.specs.Scan.{runAt}
 use Rattle.chars.specs.declared.cursor.Cursor.{Cursor}
@@ -38,6 +45,17 @@ pub line-stops : (c : ℕ) → c ≡ 0x0A → goesOn Line c ≡ false
 unfolding goesOn
 line-stops c e = rw (eq-eqb c 0x0A e)
 
+-- no word goes on above 7F
+word-high : (c : ℕ) → 0x80 ≤ c → goesOn Word c ≡ false
+unfolding goesOn isIdContinue isIdFirstAlphabetic isNumericDigit
+word-high c h =
+    rw (
+      is-above (code "A" ‥ code "Z") c (omega arith),
+      is-above (code "a" ‥ code "z") c (omega arith),
+      is-above (code "0" ‥ code "9") c (omega arith),
+      ne-eqb c (code "_") (λ q. omega arith),
+    )
+
 -- ---- where it stops
 char-is : {c d v w : ℕ} → look.Char c w ≡ look.Char d v → c ≡ d
 char-is e = cc
@@ -51,6 +69,19 @@ module _ (what : Stretch) (t : List ℕ) {a k b : ℕ} (p : stretch.Stretch t (G
 
   pub stops-there : {c w : ℕ} → lookAt t b ≡ look.Char c w → goesOn what c ≡ false → Ends what t a k b
   stops-there e n = record { passed = p; stops = λ d v f. ap (goesOn what) (sym (char-is (sym e ∙ f))) ∙ n }
+
+-- ---- by the byte at an offset
+module _ (t : List ℕ) (at : ℕ) (h : at < length t) where
+  -- one that a word goes on with is a character
+  pub word-byte : goesOn Word (getD t at 0) ≡ true → lookAt t at ≡ look.Char (getD t at 0) 1
+  word-byte y = ⊎-elim (λ g. sym (look-ascii t at h 1 g refl)) (λ g. not-both y (word-high (getD t at 0) g)) (split (getD t at 0) 0x80)
+
+  -- any other begins no character that it goes on with
+  pub word-stops : {k a : ℕ} → goesOn Word (getD t at 0) ≡ false → stretch.Stretch t (Goes Word) a k at → Ends Word t a k at
+  word-stops n p = record { passed = p; stops = λ c w f. ⊎-elim (λ g. low c w g f) (λ g. word-high c (at-high t at g f)) (split (getD t at 0) 0x80) }
+    where
+      low : (c w : ℕ) → getD t at 0 < 0x80 → lookAt t at ≡ look.Char c w → goesOn Word c ≡ false
+      low c w g f = ap (goesOn Word) (sym (char-is (look-ascii t at h 1 g refl ∙ f))) ∙ n
 
 module _ (what : Stretch) (t : List ℕ) (s : Cursor) where
   -- behind k characters that go on

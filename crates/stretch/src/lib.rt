@@ -9,7 +9,6 @@ ghost use Rattle.stretch.specs.Passing.{Ends};
 ghost use Rattle.stretch.specs.declared.Stretch.the-variants.{Word, Line};
 use chars::cursor::Cursor;
 use chars::passing::Passed;
-use utf8::Look;
 
 const LF: u32 = 0x0A;
 
@@ -19,22 +18,24 @@ pub enum Stretch {
     Line,
 }
 
-// Passes a word.
+// Passes a word, which is ASCII: its bytes are its characters.
 fn word(text: &[u8], from: usize) -> Passed
     ensures { λ r. ⌜ Ends Word (now (text .entry)) from (r .count) (r .at) ⌝ }
 {
     let mut at = from;
-    let mut count = 0;
-    loop {
-        let Look::Char(c, w) = utf8::look_at(text, at) else {
-            return Passed { at, count };
-        };
-        if classes::is_id_continue(c) {
-            at += w;
-            count += 1;
+    while at < text.len() {
+        if classes::is_id_continue(text[at] as u32) {
+            at += 1;
         } else {
-            return Passed { at, count };
+            return Passed {
+                at,
+                count: at - from,
+            };
         }
+    }
+    Passed {
+        at,
+        count: at - from,
     }
 }
 
@@ -44,17 +45,24 @@ fn line(text: &[u8], from: usize) -> Passed
 {
     let mut at = from;
     let mut count = 0;
-    loop {
-        let Look::Char(c, w) = utf8::look_at(text, at) else {
-            return Passed { at, count };
-        };
-        if c != LF {
-            at += w;
+    while at < text.len() {
+        let x = text[at] as u32;
+        if x < 0x80 {
+            if x == LF {
+                return Passed { at, count };
+            }
+            at += 1;
             count += 1;
         } else {
-            return Passed { at, count };
+            let w = utf8::width(text, at, x);
+            if w == 0 {
+                return Passed { at, count };
+            }
+            at += w;
+            count += 1;
         }
     }
+    Passed { at, count }
 }
 
 // The cursor behind what was passed, a column on for each character.

@@ -1,52 +1,38 @@
--- What was passed is a stretch of characters that go on; where it stops none does: proofs/Ends.antt.
-use Prim.Native.Nat.{ℕ, _+_, _-_, _≤_}
+-- Each byte that was passed is a character that goes on; where it stops none begins that does: proofs/Ends.antt.
+use Prim.Native.Nat.{ℕ, _-_, _≤_}
 use native.Mathlib.Omega.{arith}
-use mathlib.Core.List.{List}
-use mathlib.Core.Path.{_≡_, sym, _∙_}
+use mathlib.Core.Path.{_≡_}
 use lib.ListN.{length}
 use borrow.Author.Needs.{needs}
-use Rattle.utf8.specs.Table.{lookAt}
-use Rattle.utf8.specs.declared.Look.the-variants.{Char}
-use Rattle.utf8.proofs.Laws.{at-width}
-use Rattle.chars.specs.Stretch.{Stretch, none, more}
-use Rattle.chars.proofs.Stretches.{stretch-low}
+use Rattle.utf8.proofs.Laws.{look-past}
+use Rattle.chars.specs.Stretch.{Stretch}
+use Rattle.chars.proofs.Stretches.{no-more, one-more}
 use Rattle.stretch.specs.Passing.{Goes}
 use Rattle.stretch.specs.declared.Stretch.the-variants.{Word}
-use Rattle.stretch.proofs.Ends.{ends-there, stops-there, word-goes}
+use Rattle.stretch.proofs.Ends.{ends-there, word-goes, word-byte, word-stops}
 use Rattle.stretch.proofs.word.Statement.{statement}
 use Rattle.stretch.proofs.word.Tie as tie
 
 abbrev Inv-loop : tie.InvT-loop
-Inv-loop text from at₀ count₀ at count = Stretch text (Goes Word) from count at
+Inv-loop text from at₀ at = Stretch text (Goes Word) from (at - from) at × (from ≤ at)
 
 abbrev μ-loop : tie.MeasureT-loop
-μ-loop text from at₀ count₀ at count = length text - at
+μ-loop text from at₀ at = length text - at
 
--- the character that was found
-module _ (k : tie.After-known-told Inv-loop μ-loop) where
-  abbrev top : tie.At-loop Inv-loop μ-loop
-  top = k .before .before .before .before
-
-  abbrev text : List ℕ
-  text = top .before .before .args .text .now
-
-  abbrev w : ℕ
-  w = k .before .c .given .0 .1 .0
-
-  found : lookAt text (top .loop .at) ≡ Char (k .before .c .given .0 .0) w
-  found = sym (k .before .before .before .look-at .ensures) ∙ k .before .c .given .1
-
-  width : (1 ≤ w) × (top .loop .at + w ≤ length text) × (w ≤ 4)
-  width = at-width text (top .loop .at) found
-
-returns : tie.Need-returns Inv-loop μ-loop
-returns c = let looked = c .before .before in ends-there Word _ (looked .before .loop .inv) (sym (looked .look-at .ensures) ∙ c .enum-told .given .1)
+loop-holds : tie.Need-loop-holds Inv-loop μ-loop
+loop-holds c = let z : c .before .args .from - c .before .args .from ≡ 0 = omega arith in (no-more z, omega arith)
 
 loop-again : tie.Need-loop-again Inv-loop μ-loop
-loop-again c = let k = c .before .before in more (top k .loop .inv) (found k) (word-goes _ (c .before .is-id-continue .ensures) (c .if1 .taken))
+loop-again c =
+    let test = c .before .before .before in
+    let inv = test .before .loop .inv in
+    let y = word-goes _ (c .before .is-id-continue .ensures) (c .if1 .taken) in
+    (one-more (inv .0) (word-byte _ _ (test .loop-test .taken) y) y (omega (arith, inv .1)), omega (arith, inv .1))
 
-returns-2 : tie.Need-returns-2 Inv-loop μ-loop
-returns-2 c = let k = c .before .before in stops-there Word _ (top k .loop .inv) (found k) (word-goes _ (c .before .is-id-continue .ensures) (c .if1 .left))
+returns : tie.Need-returns Inv-loop μ-loop
+returns c =
+    let test = c .before .before .before in
+    word-stops _ _ (test .loop-test .taken) (word-goes _ (c .before .is-id-continue .ensures) (c .if1 .left)) (test .before .loop .inv .0)
 
 pub word-spec : {M : Type 1} → statement M
 word-spec =
@@ -54,14 +40,14 @@ word-spec =
     (tie.spec
     Inv-loop
     μ-loop
-    (λ c. none)
-    (λ c κs. search needs)
+    loop-holds
     (λ c. search needs)
-    (λ c. search needs)
-    returns
+    (λ c. omega (arith, c .shared-slice-known2 .given (c .before .before .loop .at)))
     (λ c κs. search needs)
-    (λ c. omega (arith, width (c .before .before)))
-    (λ c. let k = c .before .before in omega (arith, width k, stretch-low (top k .loop .inv)))
-    (λ c. omega (arith, width (c .before .before)))
+    (λ c. omega (arith, c .before .before .before .loop-test .taken))
+    (λ c. omega (arith, c .before .before .before .loop-test .taken))
     loop-again
-    returns-2)
+    (λ c. c .before .before .before .before .loop .inv .1)
+    returns
+    (λ c. c .before .loop .inv .1)
+    (λ c. ends-there Word _ (c .before .loop .inv .0) (look-past _ _ (c .loop-test .left))))
