@@ -1,21 +1,23 @@
 -- What begins at a place, for each way out of the functions. Assumes nothing.
-use Prim.Native.Nat.{ℕ, zero, suc, _+_, _-_, _≤_, _<_}
-use native.Mathlib.Numerals.{unary-clauses}
+use Prim.Native.Nat.{ℕ, _+_, _-_, _≤_, _<_}
 use native.Mathlib.Omega.{arith}
-use mathlib.Core.Bool.{true, false}
+use Prim.Native.Char.{code}
+use mathlib.Core.Bool.{Bool, true, false}
 use mathlib.Core.List.{List}
 use mathlib.Core.Path.{_≡_, refl, sym, ap, _∙_}
 use lib.ListN.{length}
 use borrow.Author.Tests.{eq-eqb, ne-eqb}
 use Rattle.basis.specs.Pick.{pick, either}
 use Rattle.position.specs.declared.Position.{Position}
-use Rattle.position.specs.Place.{advanced, lined}
-use Rattle.utf8.specs.Table.{lookAt}
+use Rattle.position.specs.Place.{advanced, advancedBy, lined}
+use Rattle.utf8.specs.Table.{_‥_, within, lookAt}
 use Rattle.utf8.specs.declared.Look.{Look}
 use Rattle.utf8.specs.declared.Look.the-variants as look
 use Rattle.utf8.proofs.Laws.{at-width}
+use Rattle.utf8.proofs.Ranges.{within-low, within-high}
 use Rattle.classes.specs.Class.{isNumericDigit, isIdFirstAlphabetic}
 use Rattle.white.specs.White.{isWhite}
+use Rattle.white.proofs.Whites.{plain}
 use Rattle.chars.specs.Cursors.{cursor}
 use Rattle.chars.specs.declared.cursor.Cursor.{Cursor}
 use Rattle.stretch.specs.Stretch.{endOf}
@@ -31,7 +33,7 @@ use Rattle.symbols.specs.Symbols.{longestSymbolOf}
 use Rattle.symbols.specs.declared.Longest.{Longest}
 use Rattle.symbols.specs.declared.Longest.the-variants.{Symbol, Nothing}
 use Rattle.comment.specs.Block.{commentOf}
-use Rattle.find.specs.Find.{symbol, number, string, text, raw, char, comment, whiteOf, wordOf, numberOf, columns, symbolOf, lineOf, blockOf, codeOf, slashOf, hashOf, markOf, beginsOf, onLook, findOf}
+use Rattle.find.specs.Find.{symbol, number, string, text, raw, char, comment, whiteOf, wordOf, numberOf, symbolOf, lineOf, blockOf, codeOf, slashOf, hashOf, markOf, beginsOf, onLook, findOf}
 use Rattle.find.specs.declared.Found.{Found}
 use Rattle.find.specs.declared.Found.the-variants.{White, Part, Literal, Wrong, End}
 
@@ -56,18 +58,8 @@ module _ {x : Identified} where
   no-word q = rw q
 
 -- ---- symbols
-pub one-column : (n : ℕ) (p : Position) → 0 < n → columns n p ≡ columns (n - 1) (advanced p)
-unfolding columns
-one-column zero p h = absurd (omega arith)
-one-column (suc n) p h = simp unary-clauses refl
-
-pub no-column : (n : ℕ) (p : Position) → n ≤ 0 → columns n p ≡ p
-unfolding columns
-no-column zero p h = refl
-no-column (suc n) p h = absurd (omega arith)
-
 module _ (at w : ℕ) (p : Position) {l : Longest} where
-  pub a-symbol : {t n : ℕ} → l ≡ Symbol t n → symbolOf at w p l ≡ Part symbol t (cursor (at + n) (columns (n - 1) p))
+  pub a-symbol : {t n : ℕ} → l ≡ Symbol t n → symbolOf at w p l ≡ Part symbol t (cursor (at + n) (advancedBy (n - 1) p))
   unfolding symbolOf
   a-symbol q = rw q
 
@@ -140,6 +132,19 @@ module _ (t : List ℕ) (at : ℕ) (p : Position) (c w : ℕ) where
   unfolding markOf
   mark-symbol a b d e f = rw (ne-eqb c 0x22 a, ne-eqb c 0x27 b, ne-eqb c 0x60 d, ne-eqb c 0x23 e, ne-eqb c 0x2F f)
 
+-- ---- no letter and no digit is white
+letter-plain : (c : ℕ) → isIdFirstAlphabetic c ≡ true → isWhite c ≡ false
+unfolding isIdFirstAlphabetic
+letter-plain c y = by (within (code "A" ‥ code "Z") c) refl y
+  where
+    by : (b : Bool) → within (code "A" ‥ code "Z") c ≡ b → either b (within (code "a" ‥ code "z") c) ≡ true → isWhite c ≡ false
+    by true z h = plain (omega (arith, within-low (code "A" ‥ code "Z") c z)) (omega (arith, within-high (code "A" ‥ code "Z") c z))
+    by false z h = plain (omega (arith, within-low (code "a" ‥ code "z") c h)) (omega (arith, within-high (code "a" ‥ code "z") c h))
+
+digit-plain : (c : ℕ) → isNumericDigit c ≡ true → isWhite c ≡ false
+unfolding isNumericDigit
+digit-plain c y = plain (omega (arith, within-low (code "0" ‥ code "9") c y)) (omega (arith, within-high (code "0" ‥ code "9") c y))
+
 -- ---- what begins behind a cursor
 module _ (t book : List ℕ) (s : Cursor) where
   pub nothing-more : lookAt t (s .at) ≡ look.End → findOf t book s ≡ End
@@ -154,21 +159,20 @@ module _ (t book : List ℕ) (s : Cursor) where
     unfolding findOf beginsOf
     finds-white y = rw (e, y)
 
-    module _ (n : isWhite c ≡ false) where
-      pub finds-letter : isIdFirstAlphabetic c ≡ true → findOf t book s ≡ wordOf (identifyOf t book (cursor (s .at) p))
+    pub finds-letter : isIdFirstAlphabetic c ≡ true → findOf t book s ≡ wordOf (identifyOf t book (cursor (s .at) p))
+    unfolding findOf beginsOf
+    finds-letter y = rw (e, letter-plain c y, y)
+
+    module _ (m : isIdFirstAlphabetic c ≡ false) where
+      pub finds-underscore : c ≡ 0x5F → findOf t book s ≡ wordOf (identifyOf t book (cursor (s .at) p))
       unfolding findOf beginsOf
-      finds-letter y = rw (e, n, y)
+      finds-underscore q = rw (e, plain {c = c} (omega arith) (omega arith), m, eq-eqb c 0x5F q)
 
-      module _ (m : isIdFirstAlphabetic c ≡ false) where
-        pub finds-underscore : c ≡ 0x5F → findOf t book s ≡ wordOf (identifyOf t book (cursor (s .at) p))
+      module _ (u : c ≡ 0x5F → ⊥) where
+        pub finds-digit : isNumericDigit c ≡ true → findOf t book s ≡ Part number Token.IntegerConstant (endOf Stretch.Word t (cursor (s .at + w) p))
+        unfolding findOf beginsOf numberOf
+        finds-digit y = rw (e, digit-plain c y, m, ne-eqb c 0x5F u, y)
+
+        pub finds-mark : isNumericDigit c ≡ false → isWhite c ≡ false → findOf t book s ≡ markOf t (s .at) p c w
         unfolding findOf beginsOf
-        finds-underscore q = rw (e, n, m, eq-eqb c 0x5F q)
-
-        module _ (u : c ≡ 0x5F → ⊥) where
-          pub finds-digit : isNumericDigit c ≡ true → findOf t book s ≡ Part number Token.IntegerConstant (endOf Stretch.Word t (cursor (s .at + w) p))
-          unfolding findOf beginsOf numberOf
-          finds-digit y = rw (e, n, m, ne-eqb c 0x5F u, y)
-
-          pub finds-mark : isNumericDigit c ≡ false → findOf t book s ≡ markOf t (s .at) p c w
-          unfolding findOf beginsOf
-          finds-mark y = rw (e, n, m, ne-eqb c 0x5F u, y)
+        finds-mark y n = rw (e, n, m, ne-eqb c 0x5F u, y)

@@ -1,12 +1,12 @@
 -- What begins at a place of a script: document 01, "Run": "Skips White_Space, then: letter or `_` an identifier; digit a number run; `"`, `'`, backtick; `#` before `{` is a symbol, else raw; `//` to before LF; `/*`; else the longest listed symbol".
-use Prim.Native.Nat.{ℕ, zero, suc, _+_, _-_}
+use Prim.Native.Nat.{ℕ, _+_, _-_}
 use Prim.Native.Char.{code}
 use mathlib.Core.Bool.{Bool, true, false}
 use mathlib.Core.List.{List}
 use lib.Dec.{eqb}
 use Rattle.basis.specs.Pick.{pick, either}
 use Rattle.position.specs.declared.Position.{Position}
-use Rattle.position.specs.Place.{advanced, lined}
+use Rattle.position.specs.Place.{advanced, advancedBy, lined}
 use Rattle.utf8.specs.Table.{lookAt}
 use Rattle.utf8.specs.declared.Look.{Look}
 use Rattle.utf8.specs.declared.Look.the-variants as look
@@ -63,14 +63,9 @@ wordOf (identified.Refused f c) = Wrong f
 unfoldable pub numberOf : List ℕ → Cursor → Found
 numberOf t to = Part number Token.IntegerConstant (endOf Stretch.Word t to)
 
--- a column on for each of n characters
-unfoldable pub columns : ℕ → Position → Position
-columns zero p = p
-columns (suc n) p = columns n (advanced p)
-
 -- the longest listed symbol, whose first character is at p; or 5, about a character so many bytes wide
 unfoldable pub symbolOf : ℕ → ℕ → Position → Longest → Found
-symbolOf at w p (Symbol token n) = Part symbol token (cursor (at + n) (columns (n - 1) p))
+symbolOf at w p (Symbol token n) = Part symbol token (cursor (at + n) (advancedBy (n - 1) p))
 symbolOf at w p Nothing = Wrong (unexpectedInput p (part at w))
 
 -- `//` to before LF, from behind the second character

@@ -11,7 +11,6 @@ ghost use Rattle.identifier.specs.Identifiers.{identifyOf};
 ghost use Rattle.find.specs.Find.{
   whiteOf,
   wordOf,
-  columns,
   symbolOf,
   blockOf,
   codeOf,
@@ -80,19 +79,6 @@ impl Found {
     pub const COMMENT: u8 = 10;
 }
 
-// A column on for each of n characters.
-fn columns(n: usize, from: Position) -> Position
-    ensures { λ r. ⌜ r ≡ columns n from ⌝ }
-{
-    let mut place = from;
-    let mut left = n;
-    while 0 < left {
-        place = place.advanced();
-        left -= 1;
-    }
-    place
-}
-
 // The longest listed symbol, whose first character is at a place; or 5, about a character so many bytes wide.
 fn symbol(words: &[u8], text: &[u8], at: usize, place: Position, width: usize) -> Found
     requires { ⌜ (now words ≡ table) × (at ≤ length (now text)) ⌝ }
@@ -105,7 +91,7 @@ fn symbol(words: &[u8], text: &[u8], at: usize, place: Position, width: usize) -
             part: Part { at, len: width },
         });
     };
-    let last = columns(n - 1, place);
+    let last = place.advanced_by(n - 1);
     Found::Part(
         Found::SYMBOL,
         token,
@@ -256,7 +242,8 @@ pub fn skip(text: &[u8], from: Cursor) -> Cursor
     }
 }
 
-// Inner: what begins behind a cursor, for a run, which has checked its text and its book and holds the words.
+// Inner: what begins behind a cursor, for a run, which has checked its text and its book and holds the words. Letters come first,
+// since most tokens begin with one; none is white.
 pub fn find(words: &[u8], book: &[u8], text: &[u8], from: Cursor) -> Found
     requires { ⌜ (now words ≡ table) × (good (now book) ≡ true) ⌝ }
     ensures { λ r. ⌜ r ≡ findOf (now (text .entry)) (now (book .entry)) from ⌝ }
@@ -270,9 +257,6 @@ pub fn find(words: &[u8], book: &[u8], text: &[u8], from: Cursor) -> Found
         at: at + width,
         place,
     };
-    if white::is_white(c) {
-        return white(c, next);
-    }
     if classes::is_id_first_alphabetic(c) {
         return word(words, book, text, Cursor { at, place });
     }
@@ -285,6 +269,9 @@ pub fn find(words: &[u8], book: &[u8], text: &[u8], from: Cursor) -> Found
             tokens::INTEGER_CONSTANT,
             stretch::end_of(Stretch::Word, text, next),
         );
+    }
+    if white::is_white(c) {
+        return white(c, next);
     }
     mark(words, text, at, place, c, width)
 }

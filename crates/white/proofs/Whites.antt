@@ -33,6 +33,11 @@ module _ {c : ℕ} where
   unfolding isWhite
   separator h g = ⊎-elim (λ k. steadily c 0x2028 0x2029 h k tt) (λ k. steadily c 0x2029 0x202A k (omega arith) tt) (split c 0x2029)
 
+  -- between the blank and U+0085 no entry stands
+  pub plain : 0x0021 ≤ c → c < 0x0085 → isWhite c ≡ false
+  unfolding isWhite
+  plain h g = sym (steadily c 0x0021 0x0085 h g tt)
+
 -- the entries of one code point that no other stands beside
 abbrev pub singles : List ℕ
 singles = 0x0020 ∷ 0x0085 ∷ 0x00A0 ∷ 0x1680 ∷ 0x202F ∷ 0x205F ∷ 0x3000 ∷ []

@@ -41,4 +41,4 @@ symbol-spec =
     (λ c. omega (arith, room c))
     (λ c κs. search needs)
     (λ c. omega (arith, room (c .before)))
-    (λ c. rw (c .columns .ensures) (sym (a-symbol _ _ _ (found (c .before))))))
+    (λ c. rw (c .advanced-by .ensures) (sym (a-symbol _ _ _ (found (c .before))))))
