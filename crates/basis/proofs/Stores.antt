@@ -1,7 +1,7 @@
 -- Laws of stores, for code that writes into lent memory.
 -- Assumes nothing.
 use Prim.Native.Nat.{ℕ, zero, suc, _+_, _-_, _≤_, _<_}
-use mathlib.Core.Bool.{true, false}
+use mathlib.Core.Bool.{Bool, true, false}
 use mathlib.Core.Path.{_≡_, refl, sym, ap, _∙_}
 use mathlib.Core.List.{List, [], _∷_, _++_, append-assoc}
 use lib.ListN.{length, replicate, set, take, drop, getD, length-append, length-set, take-append-drop}
@@ -10,6 +10,7 @@ use native.Mathlib.Omega.{arith}
 use native.Mathlib.Nat.{zero-add, add-zero, add-suc, suc-add}
 use native.Mathlib.Numerals.{add-one, sub-one}
 use borrow.Author.Tests.{le-leb, lt-leb}
+use Rattle.basis.specs.Pick.{pick}
 use Rattle.basis.specs.Store.{fits, stored, after, over, Stored}
 use Rattle.basis.proofs.Bytes.{here}
 
@@ -84,6 +85,15 @@ module _ (l : List ℕ) (i : ℕ) (xs : List ℕ) where
     pub after-none : after l i xs ≡ i
     unfolding after fits
     after-none = rw (lt-leb (i + length xs) (length l) h)
+
+-- a store leaves the memory as long as it was
+pub length-stored : (l : List ℕ) (i : ℕ) (xs : List ℕ) → length (stored l i xs) ≡ length l
+unfolding stored
+length-stored l i xs = by (fits l i xs)
+  where
+    by : (b : Bool) → length (pick b (sets l i xs) l) ≡ length l
+    by true = length-sets l i xs
+    by false = refl
 
 -- what a writer of xs tells, where there is room
 pub whole : (l : List ℕ) (i : ℕ) (xs : List ℕ) {r : ℕ} {l′ : List ℕ} → r ≡ after l i xs → l′ ≡ stored l i xs → i + length xs ≤ length l → Stored l i (length xs) xs r l′

@@ -25,22 +25,22 @@ pub not-accepted {ℓ} : {A : Type ℓ} {f : Refusal} {e : End} {n : ℕ} → Re
 not-accepted h = absurd (let z : _≡_ {A = ℕ} 0 1 = cc in omega arith)
 
 -- ---- an accepted reading
-done : (full : Refusal) (limit room n : ℕ) (t : Trace) (e : End) (m : ℕ) → n ≤ room → cut full limit room n t ≡ Accepted e m
+pub accepted-from : (full : Refusal) (limit room n : ℕ) (t : Trace) (e : End) (m : ℕ) → n ≤ room → cut full limit room n t ≡ Accepted e m
     → (m ≡ n + length (bytes t)) × (m ≤ room) × (final t ≡ good e)
 unfolding cut bytes final
-done full limit room n (ends x) e m l = λ h. let q : m ≡ n = cc in let p : x ≡ e = cc in (omega arith, omega arith, ap good p)
-done full limit room n (fails f) e m l = λ h. not-accepted h
-done full limit room n (adds bs t) e m l =
+accepted-from full limit room n (ends x) e m l = λ h. let q : m ≡ n = cc in let p : x ≡ e = cc in (omega arith, omega arith, ap good p)
+accepted-from full limit room n (fails f) e m l = λ h. not-accepted h
+accepted-from full limit room n (adds bs t) e m l =
     pick-cases (λ (a : Scanned). a ≡ Accepted e m → (m ≡ n + length (bs ++ bytes t)) × (m ≤ room) × (final t ≡ good e)) (leb (n + length bs) room) _ _
-    (λ q h. let r = done full limit room (n + length bs) t e m (leb-true _ _ q) h in (omega (arith, length-append bs (bytes t)), r .1, r .2))
+    (λ q h. let r = accepted-from full limit room (n + length bs) t e m (leb-true _ _ q) h in (omega (arith, length-append bs (bytes t)), r .1, r .2))
     (λ q h. not-accepted h)
-done full limit room n (checks f t) e m l =
+accepted-from full limit room n (checks f t) e m l =
     pick-cases (λ (a : Scanned). a ≡ Accepted e m → (m ≡ n + length (bytes t)) × (m ≤ room) × (final t ≡ good e)) (passes limit n) _ _
     (λ q h. not-accepted h)
-    (λ q h. done full limit room n t e m l h)
+    (λ q h. accepted-from full limit room n t e m l h)
 
 pub accepted-whole : Accepted-whole
-accepted-whole full limit room t e n h = let d = done full limit room 0 t e n (omega arith) h in (d .0 ∙ zero-add (length (bytes t)), d .1, d .2)
+accepted-whole full limit room t e n h = let d = accepted-from full limit room 0 t e n (omega arith) h in (d .0 ∙ zero-add (length (bytes t)), d .1, d .2)
 
 -- ---- within the limit and the room
 pub fewer : (limit n m : ℕ) → n ≤ m → passes limit m ≡ false → passes limit n ≡ false

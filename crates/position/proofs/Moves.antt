@@ -163,6 +163,12 @@ pub advanced-by-more : (n : ℕ) (p : Position) → advancedBy (n + 1) p ≡ adv
 unfolding advancedBy
 advanced-by-more n p = rw (add-one n)
 
+-- a column before many is one behind them
+pub advanced-by-first : (n : ℕ) (p : Position) → advancedBy n (advanced p) ≡ advanced (advancedBy n p)
+unfolding advancedBy
+advanced-by-first zero p = refl
+advanced-by-first (suc n) p = ap advanced (advanced-by-first n p)
+
 pub advanced-by-numbers : (n : ℕ) (p : Position) → p .pos ≤ 65535 → advancedBy n p ≡ place (p .line) (min (p .pos + n) 65535)
 unfolding advancedBy advanced up
 advanced-by-numbers zero p h = ap (place (p .line)) (omega arith)
@@ -173,7 +179,7 @@ pub advanced-some : (p : Position) → isNone (advanced p) ≡ false
 unfolding isNone advanced
 advanced-some p = rw (ne-eqb (up (p .pos)) 0 (up-some (p .pos))) (both-no (eqb (p .line) 0))
 
-first-stays : (f p q : Position) → orElse (orElse f (advanced p)) q ≡ orElse f (advanced p)
+pub first-stays : (f p q : Position) → orElse (orElse f (advanced p)) q ≡ orElse f (advanced p)
 unfolding orElse
 first-stays f p q = by (isNone f) refl
   where

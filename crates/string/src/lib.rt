@@ -69,7 +69,7 @@ fn argument_number(text: &[u8], at: usize, p: Position, q: u32) -> u8
 }
 
 // A string literal, entered after its opening terminator, which stands at the place given; a text
-// that is resumed, after its `}`. The body is written where the scan is accepted; a refused scan
+// that is resumed, after its `}`. It is scanned aside first: the body is written where the scan is accepted; a refused scan
 // leaves what is lent untouched.
 pub fn parse_string_literal(
     text: &[u8],
@@ -85,11 +85,13 @@ pub fn parse_string_literal(
     let from = Cursor { at, place };
     let number = argument_number(text, at, place, terminator);
     if number == 0 {
-        let scanned = string_scan::measure(text, from, terminator, limit, out.len());
+        let room = out.len();
+        let mut aside: [u8; 1] = [0; 1];
+        let scanned = string_scan::scan(text, from, terminator, limit, room, &mut aside);
         let Scanned::Accepted(_, _) = scanned else {
             return scanned;
         };
-        string_write::write(text, from, terminator, out);
+        string_scan::scan(text, from, terminator, limit, room, out);
         return scanned;
     }
     Scanned::Refused(refused(number, from))

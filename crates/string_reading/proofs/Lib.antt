@@ -3,3 +3,4 @@ pub mod Passing
 pub mod Limited
 pub mod Lands
 pub mod Bodies
+pub mod Escaping

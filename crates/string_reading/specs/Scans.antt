@@ -1,7 +1,9 @@
 -- The reading of a string literal: document 01, "String literal", and the Rust's `parse_string_literal`. What the entry asks first is in crate string.
 use Prim.Native.Nat.{ℕ, suc, _-_}
-use mathlib.Core.Bool.{Bool}
+use mathlib.Core.Bool.{Bool, false}
 use mathlib.Core.List.{List, [], _∷_}
+use mathlib.Core.Path.{_≡_}
+use lib.Dec.{eqb}
 use lib.ListN.{length}
 use Rattle.position.specs.declared.Position.{Position}
 use Rattle.position.specs.Place.{none}
@@ -11,6 +13,7 @@ use Rattle.white.specs.White.{isWhite}
 use Rattle.chars.specs.Scan.{Turn, go, stop, Rule, runAt}
 use Rattle.chars.specs.declared.cursor.Cursor.{Cursor}
 use Rattle.literal.specs.Trace.{Trace, checks, Yield, added, tested, yields}
+use Rattle.string_take.specs.Kinds.{backslash, isVerbatim, isInterpolated}
 use Rattle.string_take.specs.Endings.{once}
 use Rattle.string_take.specs.Turns.{state, endOf, takeOf}
 use Rattle.string_act.specs.Turns.{actOf}
@@ -57,3 +60,9 @@ readingOf white t q from = runAt (rule white t q (from .place)) t (from .at) (be
 -- what is left to read from an offset, in a state
 abbrev pub rest : List ℕ → ℕ → Position → ℕ → State → Trace
 rest t q start at s = runAt (rule isWhite t q start) t at s
+
+-- a terminator of literals that have escapes
+pub record Escaping (q : ℕ) : Type 0 where
+  pub plain : isVerbatim q ≡ false
+  pub whole : isInterpolated q ≡ false
+  pub other : eqb backslash q ≡ false

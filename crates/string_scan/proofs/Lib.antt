@@ -2,3 +2,6 @@ pub mod Sizes
 pub mod Turning
 pub mod Measuring
 pub mod Passing
+pub mod Writing
+pub mod Copying
+pub mod Keeps

@@ -10,7 +10,7 @@ use Rattle.chars.specs.declared.cursor.Cursor.{Cursor}
 use Rattle.literal.specs.Cut.{cut}
 use Rattle.literal.specs.declared.Scanned.{Scanned}
 use Rattle.literal.specs.declared.Scanned.the-variants.{Refused}
-use Rattle.literal.proofs.Turns.{cut-on, cut-full, cut-adds}
+use Rattle.literal.proofs.Turns.{cut-full, cut-adds}
 use Rattle.string_take.specs.declared.State.{State}
 use Rattle.string_reading.specs.Ends.{fullAt}
 use Rattle.string_reading.specs.Scans.{begun, readingOf}
@@ -44,7 +44,7 @@ module _ (t : List ℕ) (from : Cursor) (q limit room : ℕ) where
       module _ {m : ℕ} (z : m ≡ length (encoded d)) where
         pub measured-full : room - n < m → {a : Scanned} → a ≡ Refused (fullAt from) → a ≡ cut (fullAt from) limit room 0 (readingOf isWhite t q from)
         measured-full h k =
-            rw (i .is, went .is, cut-on (fullAt from) limit room n _ _ (went .within), cut-full (fullAt from) limit room n m _ _ (sym z) (i .within) h)
+            rw (i .is, went .is (fullAt from) room (i .within), cut-full (fullAt from) limit room n m _ _ (sym z) (i .within) h)
             k
 
         pub measured-more : m ≤ room - n → Measured t from q limit room next r (n + m)
@@ -52,5 +52,5 @@ module _ (t : List ℕ) (from : Cursor) (q limit room : ℕ) where
             let w = i .within in
             record {
               within = omega arith;
-              is = rw (i .is, went .is, cut-on (fullAt from) limit room n _ _ (went .within), cut-adds (fullAt from) limit room n m _ _ (sym z) (i .within) h);
+              is = rw (i .is, went .is (fullAt from) room (i .within), cut-adds (fullAt from) limit room n m _ _ (sym z) (i .within) h);
             }

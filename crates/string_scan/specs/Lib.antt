@@ -1,1 +1,3 @@
 pub mod Limited
+pub mod Kept
+pub mod Escaping

@@ -1,12 +1,11 @@
 -- A turn under a limit, as the measuring loop makes it: what its answer tells of the reading.
 use Prim.Native.Nat.{ℕ, _≤_, _<_}
-use mathlib.Core.Bool.{false}
-use mathlib.Core.List.{List}
+use mathlib.Core.List.{List, _++_}
 use mathlib.Core.Path.{_≡_}
 use lib.ListN.{length}
 use Rattle.position.specs.declared.Position.{Position}
 use Rattle.utf8.specs.Encode.{encoded}
-use Rattle.literal.specs.Trace.{Trace, adds, checks, passes}
+use Rattle.literal.specs.Trace.{Trace, adds, bytes}
 use Rattle.literal.specs.Cut.{cut}
 use Rattle.literal.specs.declared.Refusal.{Refusal}
 use Rattle.literal.specs.declared.Scanned.{Scanned}
@@ -19,11 +18,10 @@ use Rattle.string_scan.specs.declared.Turned.the-variants.{On, Over}
 pub record Answers (limit n : ℕ) (x : Trace) (r : Scanned) : Type 0 where
   pub is : (full : Refusal) (room : ℕ) → cut full limit room n x ≡ r
 
--- it goes on: it is tested, it adds the bytes of a character, and the rest follows further on
+-- it goes on: within the limit it adds the bytes of a character and no others, and the rest follows further on
 pub record GoesOn (limit n : ℕ) (t : List ℕ) (q : ℕ) (start : Position) (at : ℕ) (s : State) (d next : ℕ) (r : State) : Type 0 where
-  pub seven : Refusal
-  pub is : rest t q start at s ≡ checks seven (adds (encoded d) (rest t q start next r))
-  pub within : passes limit n ≡ false
+  pub is : (full : Refusal) (room : ℕ) → n ≤ room → cut full limit room n (rest t q start at s) ≡ cut full limit room n (adds (encoded d) (rest t q start next r))
+  pub body : bytes (rest t q start at s) ≡ encoded d ++ bytes (rest t q start next r)
   pub low : at < next
   pub high : next ≤ length t
 

@@ -1,6 +1,8 @@
-// The scan of a string literal: the Rust's `parse_string_literal` with nothing written.
+// The scan of a string literal: the Rust's `parse_string_literal`, with its body written into lent bytes as far as it has room there.
 ghost use mathlib.Core.Path.{_≡_};
-ghost use lib.ListN.{length};
+ghost use Prim.Native.Nat.{_-_, _≤_, _<_};
+ghost use lib.ListN.{length, take, drop};
+ghost use Rattle.basis.specs.Store.{stored};
 ghost use Rattle.white.specs.White.{isWhite};
 ghost use Rattle.utf8.specs.Encode.{encoded};
 ghost use Rattle.literal.specs.Cut.{cut};
@@ -8,7 +10,10 @@ ghost use Rattle.literal.specs.declared.Scanned.the-variants.{Refused};
 ghost use Rattle.string_reading.specs.Ends.{tooLongAt, fullAt, lastOf};
 ghost use Rattle.string_reading.specs.Scans.{begun, readingOf};
 ghost use Rattle.string_scan.specs.Limited.{Answers, Tells};
+ghost use Rattle.string_scan.specs.Kept.{Kept};
+ghost use Rattle.string_scan.specs.Escaping.{Escape-at, behindOf};
 use chars::cursor::Cursor;
+use escape::Whole;
 use fault::Fault;
 use fault::Part;
 use literal::Refusal;
@@ -20,6 +25,10 @@ use string_take::Got;
 use string_take::Last;
 use string_take::Pending;
 use string_take::State;
+
+const QUOTE: u32 = 0x22;
+
+const APOSTROPHE: u32 = 0x27;
 
 // A turn under a limit: as Step, or the answer.
 enum Turned {
@@ -96,10 +105,55 @@ fn answered(start: Position, limit: usize, n: usize, last: Last) -> Scanned
     }
 }
 
-// A turn with n bytes in the body: the limit is tested between taking a character and acting on it.
+// The escape at an offset, read at once where a turn under the limit could begin one: in a literal that has escapes, with none
+// pending.
+fn escape_at(text: &[u8], q: u32, limit: usize, n: usize, at: usize, s: State) -> Whole
+    ensures { λ r. ⌜ ((r .width ≡ 0 → ⊥) → Escape-at limit n (now (text .entry)) q at s r) ⌝ }
+{
+    let none = Whole {
+        c: escape::NOTHING,
+        width: 0,
+    };
+    if literal::is_over(limit, n) {
+        return none;
+    }
+    let pending = s.escape;
+    match pending {
+        Pending::Backslash(_) => none,
+        Pending::Empty => {
+            if q == QUOTE {
+                return escape::whole_at(text, q, at);
+            }
+            if q == APOSTROPHE {
+                return escape::whole_at(text, q, at);
+            }
+            none
+        }
+    }
+}
+
+// The state behind an escape that was read at once: a column on for each of its characters.
+fn behind(s: State, width: usize) -> State
+    ensures { λ r. ⌜ r ≡ behindOf s width ⌝ }
+{
+    let place = s.place;
+    State {
+        place: place.advanced_by(width),
+        first: s.first.or_else(place.advanced()),
+        escape: Pending::Empty,
+        skip: s.skip,
+    }
+}
+
+// A turn with n bytes in the body: the limit is tested between taking a character and acting on it. A whole escape is two turns.
 fn turn(text: &[u8], q: u32, start: Position, limit: usize, n: usize, at: usize, s: State) -> Turned
     ensures { λ r. ⌜ Tells limit n (now (text .entry)) q start at s r ⌝ }
 {
+    let whole = escape_at(text, q, limit, n, at, s);
+    let width = whole.width;
+    if width != 0 {
+        return Turned::On(whole.c, at + width, behind(s, width));
+    }
     match string_take::take(text, q, start, at, s) {
         Got::Over(last) => {
             return Turned::Over(answered(start, limit, n, last));
@@ -133,10 +187,22 @@ fn begun(place: Position) -> State
     }
 }
 
-// Inner: the scan of a literal whose start is the cursor's place, with nothing written: how it ends and the length of the
-// body, within a limit and a room. It does not ask the arguments.
-pub fn measure(text: &[u8], from: Cursor, q: u32, limit: usize, room: usize) -> Scanned
+// Copies what stands in the text from one offset to another.
+fn copy(text: &[u8], at: usize, to: usize, out: &mut [u8], n: usize)
+    requires { ⌜ (at < to → to ≤ length (now text)) ⌝ }
+    ensures { λ _. ⌜ now (out .exit) ≡ stored (now (out .entry)) n (take (to - at) (drop at (now (text .entry)))) ⌝ }
+{
+    if at < to {
+        lent::copy(&text[at..to], out, n);
+    }
+}
+
+// Inner: the scan of a literal whose start is the cursor's place: how it ends and the length of the body, within a limit and a
+// room. The body goes to the front of `out`, where it is whole if the scan is accepted and it has room there: with no room the
+// literal is only measured. It does not ask the arguments.
+pub fn scan(text: &[u8], from: Cursor, q: u32, limit: usize, room: usize, out: &mut [u8]) -> Scanned
     ensures { λ r. ⌜ r ≡ cut (fullAt from) limit room 0 (readingOf isWhite (now (text .entry)) q from) ⌝ }
+    ensures { λ r. ⌜ Kept r (readingOf isWhite (now (text .entry)) q from) (now (out .entry)) (now (out .exit)) ⌝ }
 {
     let start = from.place;
     let mut at = from.at;
@@ -145,6 +211,7 @@ pub fn measure(text: &[u8], from: Cursor, q: u32, limit: usize, room: usize) -> 
     loop {
         let most = literal::most(limit, room, n);
         let stood = string_take::pass(text, q, most, at, s);
+        copy(text, at, stood.at, &mut *out, n);
         n += stood.at - at;
         at = stood.at;
         s = stood.state;
@@ -157,6 +224,7 @@ pub fn measure(text: &[u8], from: Cursor, q: u32, limit: usize, room: usize) -> 
                 if room - n < m {
                     return full(from);
                 }
+                encoder::put(d, &mut *out, n);
                 n += m;
                 at = next;
                 s = r;

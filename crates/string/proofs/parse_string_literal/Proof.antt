@@ -1,30 +1,28 @@
--- The arguments refused, the scan refused, or the body written: laws of proofs/Entering.antt.
+-- The arguments refused, the scan refused, or the body written by the same scan once more: laws of proofs/Entering.antt.
+use mathlib.Core.Path.{_≡_, sym, _∙_}
 use borrow.Author.Needs.{needs}
+use Rattle.string_scan.proofs.Keeps.{accepted-kept}
 use Rattle.string.proofs.Entering.{leaves, leaves-refused, argument-refused, scans, has-room, writes}
 use Rattle.string.proofs.parse_string_literal.Statement.{statement}
 use Rattle.string.proofs.parse_string_literal.Tie as tie
 
 returns : tie.Need-returns
 returns c =
-    let scan = c .before .before in
-    let asked = scan .before in
-    (scans _ _ _ _ _ _ (asked .before .argument-number .ensures) (asked .if1 .taken) (scan .measure .ensures), leaves _ _ (c .enum-told2 .given .1))
-
-write-requires : tie.Need-write-requires
-write-requires c κs =
-    let found = c .before in
-    let scan = found .before .before in
-    let asked = scan .before in
-    has-room _ _ _ _ _ _ (asked .before .argument-number .ensures) (asked .if1 .taken) (scan .measure .ensures) (found .enum-told .given .1)
+    let scan = c .before .before .before in
+    let asked = scan .before .before in
+    (scans _ _ _ _ _ _ (asked .before .argument-number .ensures) (asked .if1 .taken) (scan .scan .ensures .0), leaves _ _ (c .enum-told2 .given .1))
 
 returns-2 : tie.Need-returns-2
 returns-2 c =
-    let written = c .before .before in
-    let found = written .before .before in
-    let scan = found .before .before in
-    let asked = scan .before in (
-      scans _ _ _ _ _ _ (asked .before .argument-number .ensures) (asked .if1 .taken) (scan .measure .ensures),
-      writes _ _ _ _ _ _ (asked .before .argument-number .ensures) (asked .if1 .taken) (scan .measure .ensures) (found .enum-told .given .1) _ (written .write .ensures),
+    let again = c .before .before in
+    let found = again .before .before in
+    let scan = found .before .before .before in
+    let asked = scan .before .before in
+    let number = asked .before .argument-number .ensures in
+    let yes = found .enum-told .given .1 in (
+      scans _ _ _ _ _ _ number (asked .if1 .taken) (scan .scan .ensures .0),
+      writes _ _ _ _ _ _ number (asked .if1 .taken) (scan .scan .ensures .0) yes _
+      (accepted-kept _ _ (again .scan2 .ensures .0 ∙ sym (scan .scan .ensures .0) ∙ yes) (again .scan2 .ensures .1) (has-room _ _ _ _ _ _ number (asked .if1 .taken) (scan .scan .ensures .0) yes)),
     )
 
 returns-3 : tie.Need-returns-3
@@ -35,11 +33,12 @@ parse-string-literal-spec =
     tie.close
     (tie.spec
     (λ c κs. search needs)
+    (λ c. search needs)
     (λ c κs. search needs)
     (λ c. search needs)
     (λ c. search needs)
     returns
-    write-requires
+    (λ c κs. search needs)
     (λ c. search needs)
     returns-2
     (λ c κs. search needs)

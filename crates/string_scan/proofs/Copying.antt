@@ -1,14 +1,14 @@
--- Plain characters written at once: they stand in the text as in the body. Assumes nothing.
+-- Plain characters copied at once: they stand in the text as in the body. Assumes nothing.
 use Prim.Native.Nat.{ℕ, zero, suc, _+_, _-_, _≤_, _<_}
 use native.Mathlib.Omega.{arith}
-use native.Mathlib.Nat.{zero-add, add-zero, suc-add}
+use native.Mathlib.Nat.{zero-add, suc-add}
 use mathlib.Core.Bool.{Bool, true, false}
 use mathlib.Core.List.{List, [], _∷_, _++_, append-assoc}
 use mathlib.Core.Path.{_≡_, refl, sym, ap, _∙_}
-use lib.ListN.{length, take, drop}
-use lib.Seq.{drop-drop}
+use lib.ListN.{length, take, drop, length-drop}
+use lib.Seq.{drop-drop, length-take-le}
 use Rattle.basis.specs.Pick.{pick}
-use Rattle.basis.specs.Store.{fits, stored, after}
+use Rattle.basis.specs.Store.{fits, stored}
 use Rattle.position.specs.declared.Position.{Position}
 use Rattle.utf8.specs.Table.{lookAt}
 use Rattle.utf8.specs.Encode.{encoded}
@@ -17,6 +17,7 @@ use Rattle.utf8.proofs.Encodes.{encoded-scalar}
 use Rattle.utf8.proofs.Unicode.{code-scalar, look-scalar-bytes}
 use Rattle.white.specs.White.{isWhite}
 use Rattle.chars.specs.Stretch.{Stretch}
+use Rattle.chars.specs.declared.cursor.Cursor.{Cursor}
 use Rattle.chars.proofs.Stretches as stretches
 use Rattle.chars.proofs.Stretches.{stretched, stretch-low, stretch-within}
 use Rattle.literal.specs.Trace.{Trace, adds, checks, bytes}
@@ -29,7 +30,7 @@ use Rattle.string_take.specs.declared.Stood.{Stood}
 use Rattle.string_reading.specs.Scans.{rule, rest}
 use Rattle.string_reading.proofs.Passing.{settled, one-after, after-none, after-some}
 use Rattle.string_reading.proofs.Passing as passing
-use Rattle.string_write.proofs.Writing.{Written, written-on}
+use Rattle.string_scan.proofs.Writing.{Written, written-on}
 
 -- ---- parts of a text
 take-nil : (w : ℕ) → take {A = ℕ} w [] ≡ []
@@ -51,10 +52,6 @@ part-none t at to h = let z : to - at ≡ 0 = omega arith in rw z
 same-either-way : {A : Type 0} (b : Bool) (x : A) → x ≡ pick b x x
 same-either-way true x = refl
 same-either-way false x = refl
-
-pub after-nothing : (t out : List ℕ) (at to n : ℕ) → to ≤ at → n ≡ after out n (part t at to)
-unfolding after
-after-nothing t out at to n h = rw (part-none t at to h, add-zero n) (same-either-way (fits out n []) n)
 
 pub stored-nothing : (t out : List ℕ) (at to n : ℕ) → to ≤ at → out ≡ stored out n (part t at to)
 unfolding stored
@@ -94,13 +91,19 @@ module _ (t : List ℕ) (q : ℕ) (start : Position) (at : ℕ) where
     passed-low none = (omega arith, λ h. absurd (omega arith))
     passed-low (some e z x l y h) = (omega (arith, stretch-low x), λ g. stretch-within x g)
 
+    part-size : {r : Stood} → Passes t q most at s r → length (part t at (r .at)) ≡ r .at - at
+    part-size none = rw (part-none t at at (omega arith)) (omega arith)
+    part-size (some {k} {b} {r} e z x l y h) =
+        let g = stretch-low x in
+        let u = stretch-within x (omega arith) in
+        length-take-le (b - at) (drop at t) (omega (arith, length-drop at t))
+
     pub passed-bytes : {r : Stood} → Passes t q most at s r → bytes (rest t q start at s) ≡ part t at (r .at) ++ bytes (rest t q start (r .at) (r .state))
     passed-bytes none = rw (part-none t at at (omega arith))
     passed-bytes (some {k} {b} {r} e z x l y h) =
         ap (λ (u : State). bytes (rest t q start at u)) (settled s e z) ∙ rw (h, ← after-some isWhite t q start (s .place) (s .first) k y) (all-passed (s .place) (s .first) x)
 
 -- ---- the loop
-module _ (t : List ℕ) (q : ℕ) (start : Position) (w : Trace) (old out : List ℕ) (at : ℕ) (s : State) (n : ℕ) (i : Written t q start w old out at s n) where
-  pub written-passed : {most : ℕ} {r : Stood} → Passes t q most at s r → {m : ℕ} {l : List ℕ} → m ≡ after out n (part t at (r .at)) → l ≡ stored out n (part t at (r .at))
-      → Written t q start w old l (r .at) (r .state) m
-  written-passed {most} {r} x u v = written-on t q start w old out at s n i (part t at (r .at)) (passed-bytes t q start at x) u v
+module _ (t : List ℕ) (q : ℕ) (from : Cursor) (old out : List ℕ) (at : ℕ) (s : State) (n : ℕ) (i : Written t q from old out at s n) where
+  pub written-passed : {most : ℕ} {r : Stood} → Passes t q most at s r → {l : List ℕ} → l ≡ stored out n (part t at (r .at)) → Written t q from old l (r .at) (r .state) (n + (r .at - at))
+  written-passed {most} {r} x v = written-on t q from old out at s n i (part t at (r .at)) (passed-bytes t q (from .place) at x) (rw (part-size t q (from .place) at x)) v

@@ -1,14 +1,13 @@
 -- A part that is empty, or the copy of one.
-use native.Mathlib.Omega.{arith}
 use borrow.Author.Needs.{needs}
-use Rattle.string_write.proofs.Passing.{after-nothing, stored-nothing}
-use Rattle.string_write.proofs.copy.Statement.{statement}
-use Rattle.string_write.proofs.copy.Tie as tie
+use Rattle.string_scan.proofs.Copying.{stored-nothing}
+use Rattle.string_scan.proofs.copy.Statement.{statement}
+use Rattle.string_scan.proofs.copy.Tie as tie
 
 returns-2 : tie.Need-returns-2
 returns-2 c =
     let a = c .before .before .before .args in
-    (after-nothing (a .text .now) (a .out .now) (a .at) (a .to) (a .n) (c .if1 .left), stored-nothing (a .text .now) (a .out .now) (a .at) (a .to) (a .n) (c .if1 .left))
+    stored-nothing (a .text .now) (a .out .now) (a .at) (a .to) (a .n) (c .if1 .left)
 
 pub copy-spec : {M : Type 1} → statement M
 copy-spec =
