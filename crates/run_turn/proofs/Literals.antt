@@ -1,17 +1,18 @@
 -- A literal of a kind, for each way out of the functions. Assumes nothing.
 use Prim.Native.Nat.{ℕ, _+_, _-_, _≤_, _<_}
 use native.Mathlib.Omega.{arith}
+use native.Mathlib.Nat.{sub-zero}
 use mathlib.Core.Bool.{Bool, true, false}
 use mathlib.Core.List.{List, _++_}
 use mathlib.Core.Path.{_≡_, refl, sym, ap, _∙_}
 use lib.Dec.{eqb}
-use lib.ListN.{length, take, drop, length-take, length-drop}
-use lib.Seq.{sets}
+use lib.ListN.{length, take, drop, length-take, length-drop, length-append}
+use lib.Seq.{sets, drop-append-seam, take-append-seam}
 use borrow.Author.Tests.{eq-eqb, ne-eqb, le-leb, lt-leb}
 use Rattle.basis.specs.Pick.{pick}
 use borrow.Rule.Slice.PartMut.{putMid}
-use Rattle.basis.specs.Store.{over}
-use Rattle.basis.proofs.Stores.{part-sets, sets-front}
+use Rattle.basis.specs.Store.{stored, over}
+use Rattle.basis.proofs.Stores.{part-sets, sets-front, stored-whole}
 use Rattle.utf8.specs.Table.{chars, look, lookAt}
 use Rattle.white.specs.White.{isWhite}
 use Rattle.chars.specs.declared.cursor.Cursor.{Cursor}
@@ -116,3 +117,18 @@ module _ (l : List ℕ) (used : ℕ) (bs : List ℕ) (h : used + length bs ≤ l
 
   pub part-over : putMid used k l (over bs (take k (drop used l))) ≡ sets l used bs
   part-over = rw (← sets-front (take k (drop used l)) bs part-room) part-stored
+
+-- ---- a body aside
+module _ (body : List ℕ) where
+  -- memory with the body in front has it there, whatever was there before
+  pub over-again : (old : List ℕ) {l : List ℕ} → l ≡ over body old → l ≡ over body l
+  over-again old e = e ∙ ap (λ (r : List ℕ). body ++ r) (sym (drop-append-seam body (drop (length body) old))) ∙ ap (λ (r : List ℕ). over body r) (sym e)
+
+  module _ (aside : List ℕ) (e : aside ≡ over body aside) where
+    pub aside-room : length body ≤ length aside
+    aside-room = let h = ap length e ∙ length-append body (drop (length body) aside) in omega arith
+
+    pub aside-stored : (l : List ℕ) (used n : ℕ) → n ≡ length body → used + length body ≤ length l → {m : List ℕ} → m ≡ stored l used (take (n - 0) (drop 0 aside)) → m ≡ sets l used body
+    aside-stored l used n q h g =
+        let front : take (n - 0) (drop 0 aside) ≡ body = rw (sub-zero n, q) (ap (take (length body)) e ∙ take-append-seam body (drop (length body) aside)) in
+        g ∙ rw (front) (stored-whole l used body h)

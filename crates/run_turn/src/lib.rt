@@ -15,12 +15,15 @@ ghost use Rattle.literal.specs.Cut.{cut};
 ghost use Rattle.literal.specs.declared.Scanned.the-variants.{Accepted};
 ghost use Rattle.string_take.specs.Kinds.{apostrophe};
 ghost use Rattle.string_reading.specs.Scans.{readingOf};
+ghost use Rattle.string_scan.specs.Kept.{Kept};
+ghost use Rattle.find.specs.Find.{raw};
 ghost use Rattle.reading.specs.CutRun.{full, scanned};
 ghost use Rattle.reading.specs.declared.Ending.the-variants.{Stop};
 ghost use Rattle.script.specs.Skips.{skipped};
 ghost use Rattle.token.specs.Tokens.{EOF};
 ghost use Rattle.script.specs.Steps.{terminatorOf, traceOf, wrongOf, faultOf, literalOf, partOf, endOf, stepOf};
 ghost use Rattle.run_turn.specs.declared.Next.the-variants.{Over};
+ghost use Rattle.run_turn.specs.Aside.{Holds, Aside};
 ghost use Rattle.run_turn.specs.Turns.{within, turnOf, keptOf, Leads, Deep, At, Standing, listedAs};
 use chars::cursor::Cursor;
 use fault::Fault;
@@ -42,6 +45,9 @@ const BACKTICK: u32 = 0x60;
 
 // The kind of a piece of text that `${` ended.
 const INTERPOLATED: u8 = 6;
+
+// How many bytes of a body are kept aside as it is measured, so that most literals are read once.
+const ASIDE: usize = 128;
 
 // What a turn comes to: nothing is listed, an entry is, or the run is over.
 pub enum Next {
@@ -73,35 +79,49 @@ fn terminator_of(kind: u8) -> u32
     BACKTICK
 }
 
-// A literal's answer within the limit and the room.
-fn measure(text: &[u8], kind: u8, from: Cursor, limit: usize, room: usize) -> Scanned
+// A literal's answer within the limit and the room. The body of a string goes aside, where it has room there.
+fn measure(
+    text: &[u8],
+    kind: u8,
+    from: Cursor,
+    limit: usize,
+    room: usize,
+    aside: &mut [u8],
+) -> Scanned
     ensures { λ r. ⌜ r ≡ cut (full from) limit room 0 (traceOf (now (text .entry)) kind from) ⌝ }
+    ensures { λ r. ⌜ ((kind ≡ raw → ⊥) → Kept r (traceOf (now (text .entry)) kind from) (now (aside .entry)) (now (aside .exit))) ⌝ }
 {
     if kind == Found::RAW {
         return raw_scan::measure(text, from, 0, limit, room);
     }
-    string_scan::measure(text, from, terminator_of(kind), limit, room)
+    string_scan::scan(text, from, terminator_of(kind), limit, room, aside)
 }
 
-// Whether the body of a `'` literal is one character; none has more than four bytes.
-fn is_one_character(text: &[u8], from: Cursor, len: usize) -> bool
-    requires { ⌜ len ≡ length (bytes (readingOf isWhite (now text) apostrophe from)) ⌝ }
+// Whether a `'` literal, whose body is aside, is one character; none has more than four bytes.
+fn is_one_character(aside: &[u8], text: &[u8], from: Cursor, len: usize) -> bool
+    requires { ⌜ (len ≡ length (bytes (readingOf isWhite (now text) apostrophe from))) × Holds (bytes (readingOf isWhite (now text) apostrophe from)) (now aside) ⌝ }
     ensures { λ r. ⌜ r ≡ eqb (length (chars (bytes (readingOf isWhite (now (text .entry)) apostrophe from)))) 1 ⌝ }
 {
     if 4 < len {
         return false;
     }
-    let mut body: [u8; 4] = [0; 4];
-    string_write::write(text, from, APOSTROPHE, &mut body);
-    let Look::Char(_, width) = utf8::look_at(&body, 0) else {
+    let Look::Char(_, width) = utf8::look_at(aside, 0) else {
         return false;
     };
     width == len
 }
 
 // What is wrong with a literal that its scan accepts, by number; 0 for nothing.
-fn wrong_of(text: &[u8], kind: u8, level: usize, from: Cursor, end: End, len: usize) -> u8
-    requires { ⌜ len ≡ length (bytes (traceOf (now text) kind from)) ⌝ }
+fn wrong_of(
+    aside: &[u8],
+    text: &[u8],
+    kind: u8,
+    level: usize,
+    from: Cursor,
+    end: End,
+    len: usize,
+) -> u8
+    requires { ⌜ (len ≡ length (bytes (traceOf (now text) kind from))) × Aside (now text) kind from (now aside) ⌝ }
     ensures { λ r. ⌜ r ≡ wrongOf kind level end (bytes (traceOf (now (text .entry)) kind from)) ⌝ }
 {
     let on_record = end.on_record;
@@ -115,7 +135,7 @@ fn wrong_of(text: &[u8], kind: u8, level: usize, from: Cursor, end: End, len: us
         return 0;
     }
     if kind == Found::CHAR {
-        if is_one_character(text, from, len) {
+        if is_one_character(aside, text, from, len) {
             return 0;
         }
         return Fault::NOT_ONE_CHARACTER;
@@ -123,16 +143,39 @@ fn wrong_of(text: &[u8], kind: u8, level: usize, from: Cursor, end: End, len: us
     0
 }
 
-// Writes the body of a literal that is listed, behind the literal bytes that are used.
-fn write(text: &[u8], kind: u8, from: Cursor, len: usize, used: usize, literals: &mut [u8])
-    requires { ⌜ (from .at ≤ length (now text)) × (len ≡ length (bytes (traceOf (now text) kind from))) × (used + len ≤ length (now literals)) ⌝ }
+// Writes the body of a literal that is listed, behind the literal bytes that are used: a short string from aside, a long one by the
+// same scan once more.
+fn write(
+    aside: &[u8],
+    text: &[u8],
+    kind: u8,
+    from: Cursor,
+    end: End,
+    len: usize,
+    limit: usize,
+    used: usize,
+    literals: &mut [u8],
+)
+    requires { ⌜ (from .at ≤ length (now text)) × (used ≤ length (now literals)) × (scanned (within limit (length (now literals))) used from (traceOf (now text) kind from) ≡ Accepted end len) × Aside (now text) kind from (now aside) ⌝ }
     ensures { λ _. ⌜ now (literals .exit) ≡ sets (now (literals .entry)) used (bytes (traceOf (now (text .entry)) kind from)) ⌝ }
 {
     if kind == Found::RAW {
         raw_write::write(text, from, 0, len, &mut literals[used..]);
         return;
     }
-    string_write::write(text, from, terminator_of(kind), &mut literals[used..]);
+    if len <= ASIDE {
+        lent::copy(&aside[0..len], literals, used);
+        return;
+    }
+    let room = literals.len() - used;
+    string_scan::scan(
+        text,
+        from,
+        terminator_of(kind),
+        limit,
+        room,
+        &mut literals[used..],
+    );
 }
 
 // The run is over.
@@ -197,6 +240,7 @@ fn list(kind: u8, end: End, place: Position, len: usize, at: usize, used: usize)
 
 // A literal that its scan accepts, within the limit and the room.
 fn accepted(
+    aside: &[u8],
     text: &[u8],
     kind: u8,
     from: Cursor,
@@ -208,13 +252,13 @@ fn accepted(
     used: usize,
     literals: &mut [u8],
 ) -> Turned
-    requires { ⌜ (from .at ≤ length (now text)) × (used ≤ length (now literals)) × (scanned (within limit (length (now literals))) used from (traceOf (now text) kind from) ≡ Accepted end len) ⌝ }
+    requires { ⌜ (from .at ≤ length (now text)) × (used ≤ length (now literals)) × (scanned (within limit (length (now literals))) used from (traceOf (now text) kind from) ≡ Accepted end len) × Aside (now text) kind from (now aside) ⌝ }
     ensures { λ r. ⌜ Deep level (λ s. Leads s r (turnOf (within limit (length (now (literals .entry)))) free used s (literalOf (now (text .entry)) kind from s))) ⌝ }
     ensures { λ r. ⌜ Deep level (λ s. now (literals .exit) ≡ keptOf (within limit (length (now (literals .entry)))) free used (literalOf (now (text .entry)) kind from s) (now (literals .entry))) ⌝ }
 {
     let after = used + len;
     let place = from.place;
-    let wrong = wrong_of(text, kind, level, from, end, len);
+    let wrong = wrong_of(aside, text, kind, level, from, end, len);
     if wrong == Fault::STILL_OPEN {
         let to = end.cursor;
         return stop(to, used, wrong, to.place);
@@ -223,7 +267,7 @@ fn accepted(
         return stop(from, used, wrong, place);
     }
     if free {
-        write(text, kind, from, len, used, literals);
+        write(aside, text, kind, from, end, len, limit, used, literals);
         return list(kind, end, place, len, used, after);
     }
     stop(from, used, Fault::NO_TOKEN_ROOM, place)
@@ -244,7 +288,9 @@ fn literal(
     ensures { λ r. ⌜ Deep level (λ s. Leads s r (turnOf (within limit (length (now (literals .entry)))) free used s (literalOf (now (text .entry)) kind from s))) ⌝ }
     ensures { λ r. ⌜ Deep level (λ s. now (literals .exit) ≡ keptOf (within limit (length (now (literals .entry)))) free used (literalOf (now (text .entry)) kind from s) (now (literals .entry))) ⌝ }
 {
-    let scanned = measure(text, kind, from, limit, literals.len() - used);
+    let mut aside: [u8; 128] = [0; 128];
+    let room = literals.len() - used;
+    let scanned = measure(text, kind, from, limit, room, &mut aside);
     match scanned {
         Scanned::Refused(refusal) => {
             let fault = refusal.fault;
@@ -252,6 +298,7 @@ fn literal(
         }
         Scanned::Accepted(end, len) => {
             return accepted(
+                &aside,
                 text,
                 kind,
                 from,

@@ -63,12 +63,16 @@ module _ (k : tie.Start) where
       let w = whole b (k .args .free) (k .args .used) text (k .args .kind) (k .args .from) begun taken in
       (w .0, omega (arith, w .1, k .pre .1))
 
+-- where the literal was entered
+abbrev begin : tie.After-wrong-of → tie.Start
+begin w = w .before .before .before .before .before
+
 open-wrong : (n : ℕ) → n ≡ 11 → n ≡ 0 → ⊥
 open-wrong n y z = omega (arith, y, z)
 
 open-returns : tie.Need-returns
 open-returns c =
-    let k = c .before .before .before .before .before .before .before in
+    let k = begin (c .before .before .before) in
     let n = c .before .before .before .wrong-of .ensures in
     let y = sym n ∙ c .before .before .if1 .taken in
     let z = open-wrong (wrong k) y in
@@ -76,7 +80,7 @@ open-returns c =
 
 wrong-returns : tie.Need-returns-2
 wrong-returns c =
-    let k = c .before .before .before .before .before .before .before in
+    let k = begin (c .before .before .before) in
     let n = c .before .before .before .wrong-of .ensures in
     let other = fault-other (wrong k) (k .args .from) (k .args .end) (λ z. c .before .before .if1 .left (n ∙ z)) in (
       λ at braces due. rw (c .stop2 .ensures, n) (wrongs k at braces due _ (λ z. c .before .if2 .taken (n ∙ z)) other .0, tt),
@@ -84,25 +88,26 @@ wrong-returns c =
     )
 
 -- nothing is wrong
-none-wrong : (k : tie.Else2) → wrong (k .before .before .before .before .before .before) ≡ 0
+none-wrong : (k : tie.Else2) → wrong (begin (k .before .before)) ≡ 0
 none-wrong k = sym (k .before .before .wrong-of .ensures) ∙ k .if2 .left
 
 full-returns : tie.Need-returns-4
 full-returns c =
-    let k = c .before .before .before .before .before .before .before .before in
+    let k = begin (c .before .before .before .before) in
     let z = none-wrong (c .before .before) in
     let n = c .before .if3 .left in
     (λ at braces due. rw (c .stop3 .ensures) (fulls k at braces due z n .0, tt), λ at braces due. fulls k at braces due z n .1)
 
 write-requires : tie.Need-write-requires
 write-requires c κs =
-    let k = c .before .before .before .before .before .before .before .before in
-    (k .pre .0, sized k .0, sized k .1)
+    let k = begin (c .before .before .before .before) in
+    (k .pre .0, k .pre .1, k .pre .2, k .pre .3)
 
 listed-returns : tie.Need-returns-3
 listed-returns c =
-    let k = c .before .before .before .before .before .before .before .before .before .before .before .before in
-    let z = none-wrong (c .before .before .before .before .before .before) in
+    let e = c .before .before .before .before .before .before in
+    let k = begin (e .before .before) in
+    let z = none-wrong e in
     let y = c .before .before .before .before .before .if3 .taken in (
       λ at braces due. rw (c .list .ensures) (listed-leads (b k) (k .args .free) (k .args .used) (text k) (k .args .kind) (k .args .from) (s k at braces due) (taken k) z y),
       λ at braces due. c .before .before .before .write .ensures ∙ sym (listed-kept (b k) (k .args .free) (k .args .used) (text k) (k .args .kind) (k .args .from) (s k at braces due) (taken k) z y (k .args .literals .now)),
@@ -112,8 +117,8 @@ pub accepted-spec : {M : Type 1} → statement M
 accepted-spec =
     tie.close
     (tie.spec
-    (λ c. omega (arith, sized (c .before .before) .1))
-    (λ c κs. sized (c .before .before .before) .0)
+    (λ c. omega (arith, sized (c .before .before .before) .1))
+    (λ c κs. let k = c .before .before .before .before in (sized k .0, k .pre .3))
     (λ c κs. search needs)
     open-returns
     (λ c κs. search needs)

@@ -9,7 +9,10 @@ use Rattle.run_turn.proofs.wrong_of.Statement.{statement}
 use Rattle.run_turn.proofs.wrong_of.Tie as tie
 
 one-requires : tie.Need-is-one-character-requires
-one-requires c κs = rw (← char-trace _ _ _ (c .if4 .taken)) (c .before .before .before .before .before .before .pre)
+one-requires c κs =
+    let k = c .before .before .before .before .before .before .before in
+    let is = char-trace (k .args .text .now) (k .args .kind) (k .args .from) (c .if4 .taken) in
+    (rw (← is) (k .pre .0), rw (← is) (k .pre .1 (λ z. omega (arith, z, c .if4 .taken))))
 
 pub wrong-of-spec : {M : Type 1} → statement M
 wrong-of-spec =

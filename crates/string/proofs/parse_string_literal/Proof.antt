@@ -22,7 +22,7 @@ returns-2 c =
     let yes = found .enum-told .given .1 in (
       scans _ _ _ _ _ _ number (asked .if1 .taken) (scan .scan .ensures .0),
       writes _ _ _ _ _ _ number (asked .if1 .taken) (scan .scan .ensures .0) yes _
-      (accepted-kept _ _ (again .scan2 .ensures .0 ∙ sym (scan .scan .ensures .0) ∙ yes) (again .scan2 .ensures .1) (has-room _ _ _ _ _ _ number (asked .if1 .taken) (scan .scan .ensures .0) yes)),
+          (accepted-kept _ _ (again .scan2 .ensures .0 ∙ sym (scan .scan .ensures .0) ∙ yes) (again .scan2 .ensures .1) (has-room _ _ _ _ _ _ number (asked .if1 .taken) (scan .scan .ensures .0) yes)),
     )
 
 returns-3 : tie.Need-returns-3
