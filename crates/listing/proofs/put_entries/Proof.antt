@@ -1,17 +1,17 @@
 -- Each entry is passed once.
-use Prim.Native.Nat.{_-_}
+use Prim.Native.Nat.{_-_, _≤_}
 use borrow.Author.Needs.{needs}
-use Rattle.listing.proofs.print_entries.Statement.{statement}
-use Rattle.listing.proofs.print_entries.Tie as tie
+use Rattle.listing.proofs.put_entries.Statement.{statement}
+use Rattle.listing.proofs.put_entries.Tie as tie
 
 abbrev Inv-loop : tie.InvT-loop
-Inv-loop entries listed script literals room n₀ n = Unit {0}
+Inv-loop entries listed script literals out₀ room waiting₀ n₀ out waiting n = waiting ≤ 65536
 
 abbrev μ-loop : tie.MeasureT-loop
-μ-loop entries listed script literals room n₀ n = listed - n
+μ-loop entries listed script literals out₀ room waiting₀ n₀ out waiting n = listed - n
 
-pub print-entries-spec : {M : Type 1} → statement M
-print-entries-spec =
+pub put-entries-spec : {M : Type 1} → statement M
+put-entries-spec =
     tie.close
     (tie.spec
     Inv-loop
