@@ -37,6 +37,7 @@ fn main() {
         link(&folder, &archives);
         println!("cargo:rustc-cfg=stew_archive");
     }
+    println!("cargo:missing={}", missing.trim());
     println!("cargo:rustc-env=STEW_MISSING={}", missing.trim());
 }
 

@@ -1,11 +1,10 @@
 //! What the copied files name of the rest of the source, as little of it as they use.
 #![allow(clippy::upper_case_acronyms, non_camel_case_types)]
 
+use crate::smart_string::SmartString;
 use std::collections::BTreeMap;
 use std::fmt;
 use std::hash::{Hash, Hasher};
-use std::iter::FromIterator;
-use std::ops::{Deref, DerefMut};
 use std::str::FromStr;
 
 pub type INT = i64;
@@ -87,82 +86,6 @@ impl LexError {
 impl fmt::Display for LexError {
     fn fmt(&self, f: &mut fmt::Formatter<'_>) -> fmt::Result {
         fmt::Debug::fmt(self, f)
-    }
-}
-
-/// A string that is not `String`, since the source converts a token into either.
-#[derive(Debug, Clone, PartialEq, Eq, PartialOrd, Ord, Hash, Default)]
-pub struct SmartString(String);
-
-pub fn new_smart_string() -> SmartString {
-    SmartString::default()
-}
-
-impl SmartString {
-    pub fn clear(&mut self) {
-        self.0.clear();
-    }
-}
-
-impl Deref for SmartString {
-    type Target = String;
-
-    fn deref(&self) -> &String {
-        &self.0
-    }
-}
-
-impl DerefMut for SmartString {
-    fn deref_mut(&mut self) -> &mut String {
-        &mut self.0
-    }
-}
-
-impl std::borrow::Borrow<str> for SmartString {
-    fn borrow(&self) -> &str {
-        &self.0
-    }
-}
-
-impl From<&str> for SmartString {
-    fn from(text: &str) -> Self {
-        Self(text.into())
-    }
-}
-
-impl From<String> for SmartString {
-    fn from(text: String) -> Self {
-        Self(text)
-    }
-}
-
-impl From<SmartString> for String {
-    fn from(text: SmartString) -> Self {
-        text.0
-    }
-}
-
-impl FromIterator<char> for SmartString {
-    fn from_iter<I: IntoIterator<Item = char>>(chars: I) -> Self {
-        Self(chars.into_iter().collect())
-    }
-}
-
-impl PartialEq<str> for SmartString {
-    fn eq(&self, text: &str) -> bool {
-        self.0 == text
-    }
-}
-
-impl PartialEq<&str> for SmartString {
-    fn eq(&self, text: &&str) -> bool {
-        self.0 == *text
-    }
-}
-
-impl fmt::Display for SmartString {
-    fn fmt(&self, f: &mut fmt::Formatter<'_>) -> fmt::Result {
-        f.write_str(&self.0)
     }
 }
 
