@@ -187,6 +187,11 @@ first-stays f p q = by (isNone f) refl
     by true e = rw (e, advanced-some p)
     by false e = rw (e, e)
 
+-- a first place that is set stays
+pub first-set : (f p : Position) → isNone f ≡ false → orElse f p ≡ f
+unfolding orElse
+first-set f p e = rw e
+
 -- the first place, n columns on from p: f while there is none, then the first of them where f is none
 unfoldable pub firstBy : ℕ → Position → Position → Position
 firstBy zero f p = f

@@ -4,3 +4,4 @@ pub mod Limited
 pub mod Lands
 pub mod Bodies
 pub mod Escaping
+pub mod Doubling

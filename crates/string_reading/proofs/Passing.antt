@@ -34,7 +34,7 @@ use Rattle.string_reading.specs.Ends.{tooLongAt}
 use Rattle.string_reading.specs.Scans.{rule}
 use Rattle.string_reading.proofs.Readings.{goes-on}
 
-either-way : {A : Type 0} (b : Bool) (x : A) {y : A} → y ≡ x → pick b y x ≡ x
+pub either-way : {A : Type 0} (b : Bool) (x : A) {y : A} → y ≡ x → pick b y x ≡ x
 either-way true x e = e
 either-way false x e = refl
 

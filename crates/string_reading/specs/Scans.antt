@@ -1,5 +1,5 @@
 -- The reading of a string literal: document 01, "String literal", and the Rust's `parse_string_literal`. What the entry asks first is in crate string.
-use Prim.Native.Nat.{ℕ, suc, _-_}
+use Prim.Native.Nat.{ℕ, suc, _-_, _<_}
 use mathlib.Core.Bool.{Bool, false}
 use mathlib.Core.List.{List, [], _∷_}
 use mathlib.Core.Path.{_≡_}
@@ -13,7 +13,7 @@ use Rattle.white.specs.White.{isWhite}
 use Rattle.chars.specs.Scan.{Turn, go, stop, Rule, runAt}
 use Rattle.chars.specs.declared.cursor.Cursor.{Cursor}
 use Rattle.literal.specs.Trace.{Trace, checks, Yield, added, tested, yields}
-use Rattle.string_take.specs.Kinds.{backslash, isVerbatim, isInterpolated}
+use Rattle.string_take.specs.Kinds.{lf, cr, dollar, backslash, isVerbatim, isInterpolated}
 use Rattle.string_take.specs.Endings.{once}
 use Rattle.string_take.specs.Turns.{state, endOf, takeOf}
 use Rattle.string_act.specs.Turns.{actOf}
@@ -66,3 +66,12 @@ pub record Escaping (q : ℕ) : Type 0 where
   pub plain : isVerbatim q ≡ false
   pub whole : isInterpolated q ≡ false
   pub other : eqb backslash q ≡ false
+
+-- one of the three terminators: none of the characters that the rules name, not white, and of one byte
+pub record Terminating (q : ℕ) : Type 0 where
+  pub no-dollar : eqb q dollar ≡ false
+  pub no-backslash : eqb q backslash ≡ false
+  pub no-cr : eqb q cr ≡ false
+  pub no-lf : eqb q lf ≡ false
+  pub no-white : isWhite q ≡ false
+  pub low : q < 0x80

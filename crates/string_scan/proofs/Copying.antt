@@ -30,7 +30,8 @@ use Rattle.string_take.specs.declared.Stood.{Stood}
 use Rattle.string_reading.specs.Scans.{rule, rest}
 use Rattle.string_reading.proofs.Passing.{settled, one-after, after-none, after-some}
 use Rattle.string_reading.proofs.Passing as passing
-use Rattle.string_scan.proofs.Writing.{Written, written-on}
+use Rattle.string_scan.specs.Standing.{Written}
+use Rattle.string_scan.proofs.Writing.{written-on}
 
 -- ---- parts of a text
 take-nil : (w : ℕ) → take {A = ℕ} w [] ≡ []

@@ -5,3 +5,5 @@ pub mod Passing
 pub mod Writing
 pub mod Copying
 pub mod Keeps
+pub mod Units
+pub mod Leading

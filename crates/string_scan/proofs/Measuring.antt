@@ -15,13 +15,10 @@ use Rattle.string_take.specs.declared.State.{State}
 use Rattle.string_reading.specs.Ends.{fullAt}
 use Rattle.string_reading.specs.Scans.{begun, readingOf}
 use Rattle.string_scan.specs.Limited.{Answers, GoesOn, Tells}
+use Rattle.string_scan.specs.Standing.{Measured}
 use Rattle.string_reading.specs.Scans.{rest}
 use Rattle.string_scan.specs.declared.Turned.{Turned}
 use Rattle.string_scan.specs.declared.Turned.the-variants.{On, Over}
-
-pub record Measured (t : List ℕ) (from : Cursor) (q limit room at : ℕ) (s : State) (n : ℕ) : Type 0 where
-  pub within : n ≤ room
-  pub is : cut (fullAt from) limit room 0 (readingOf isWhite t q from) ≡ cut (fullAt from) limit room n (rest t q (from .place) at s)
 
 module _ (t : List ℕ) (from : Cursor) (q limit room : ℕ) where
   pub measured-start : {s : State} → s ≡ begun (from .place) → Measured t from q limit room (from .at) s 0

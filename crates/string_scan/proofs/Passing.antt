@@ -30,7 +30,7 @@ use Rattle.string_take.specs.declared.Stood.{Stood}
 use Rattle.string_reading.specs.Ends.{fullAt}
 use Rattle.string_reading.specs.Scans.{rule, rest}
 use Rattle.string_reading.proofs.Passing.{settled, after, after-none, after-some, one-after}
-use Rattle.string_scan.proofs.Measuring.{Measured}
+use Rattle.string_scan.specs.Standing.{Measured}
 
 -- a character's bytes in the body are as many as in the text
 same-size : (t : List ℕ) (b : ℕ) {c w : ℕ} → lookAt t b ≡ Char c w → length (encoded c) ≡ w

@@ -1,29 +1,20 @@
 -- A turn under a limit, for each way through the code. Assumes nothing.
-use Prim.Native.Nat.{ℕ, _+_}
-use native.Mathlib.Omega.{arith}
-use native.Mathlib.Nat.{add-zero}
+use Prim.Native.Nat.{ℕ}
 use mathlib.Core.Bool.{Bool, true, false}
-use mathlib.Core.List.{List, []}
+use mathlib.Core.List.{List}
 use mathlib.Core.Path.{_≡_, refl, sym, ap, _∙_}
 use Rattle.position.specs.declared.Position.{Position}
-use Rattle.utf8.specs.Encode.{isScalar, encoded}
-use Rattle.utf8.proofs.Encodes.{encoded-none}
 use Rattle.white.specs.White.{isWhite}
 use Rattle.chars.specs.declared.cursor.Cursor.{Cursor}
-use Rattle.literal.specs.Trace.{adds, checks, bytes, passes}
+use Rattle.literal.specs.Trace.{bytes, passes}
 use Rattle.literal.specs.Cut.{cut}
 use Rattle.literal.specs.declared.End.{End}
 use Rattle.literal.specs.declared.Refusal.{Refusal}
 use Rattle.literal.specs.declared.Scanned.{Scanned}
 use Rattle.literal.specs.declared.Scanned.the-variants.{Accepted, Refused}
-use Rattle.literal.proofs.Turns.{cut-ends, cut-fails, cut-long, cut-on, cut-adds}
-use Rattle.escape.specs.Escapes.{nothing}
-use Rattle.escape.specs.declared.Whole.{Whole}
-use Rattle.string_take.specs.Kinds.{quote, apostrophe, isVerbatim, isInterpolated}
+use Rattle.literal.proofs.Turns.{cut-ends, cut-fails, cut-long, cut-on}
 use Rattle.string_take.specs.Endings.{once}
-use Rattle.string_take.specs.Turns.{state, takeOf}
-use Rattle.string_take.specs.declared.Pending.{Pending}
-use Rattle.string_take.specs.declared.Pending.the-variants.{Empty}
+use Rattle.string_take.specs.Turns.{takeOf}
 use Rattle.string_act.specs.Turns.{actOf}
 use Rattle.string_take.specs.declared.State.{State}
 use Rattle.string_take.specs.declared.Last.{Last}
@@ -34,10 +25,8 @@ use Rattle.string_act.specs.declared.Step.{Step}
 use Rattle.string_act.specs.declared.Step.the-variants as step
 use Rattle.string_reading.specs.Ends.{tooLongAt, lastOf}
 use Rattle.string_scan.specs.Limited.{Answers, GoesOn}
-use Rattle.string_scan.specs.Escaping.{Escape-at, behindOf}
-use Rattle.string_reading.specs.Scans.{rest, Escaping}
+use Rattle.string_reading.specs.Scans.{rest}
 use Rattle.string_reading.proofs.Readings.{over-at-once, over-then, goes-on, goes-low, goes-high}
-use Rattle.string_reading.proofs.Escaping.{Twice, whole-twice}
 
 -- how a scan is over
 module _ (start : Position) (limit n : ℕ) {last : Last} where
@@ -85,43 +74,3 @@ module _ (t : List ℕ) (q : ℕ) (start : Position) (limit n at : ℕ) (s : Sta
               low = goes-low isWhite t q start at s (sym g ∙ k) (sym f ∙ z);
               high = goes-high isWhite t q start at s (sym g ∙ k) (sym f ∙ z);
             }
-
--- the terminators of literals that have escapes
-pub quote-escapes : {q : ℕ} → q ≡ quote → Escaping q
-unfolding isVerbatim isInterpolated
-quote-escapes e = rw e (record { plain = refl; whole = refl; other = refl })
-
-pub apostrophe-escapes : {q : ℕ} → q ≡ apostrophe → Escaping q
-unfolding isVerbatim isInterpolated
-apostrophe-escapes e = rw e (record { plain = refl; whole = refl; other = refl })
-
--- a whole escape: two turns, of which the first adds nothing
-nothing-added : encoded nothing ≡ []
-unfolding isScalar
-nothing-added = encoded-none nothing refl
-
--- the state with no escape pending
-emptied : (s : State) → s .escape ≡ Empty → s ≡ state (s .place) (s .first) Empty (s .skip)
-emptied s e = ap (λ (x : Pending). state (s .place) (s .first) x (s .skip)) e
-
-module _ (t : List ℕ) (q : ℕ) (start : Position) (limit n at : ℕ) (s : State) {w : Whole} (x : Escape-at limit n t q at s w) (z : w .width ≡ 0 → ⊥) where
-  read : Twice isWhite t q start (x .has) (s .place) (s .first) (s .skip) at (w .c) (at + w .width) (behindOf s (w .width))
-  unfolding behindOf
-  read = whole-twice isWhite t q start (x .has) (s .place) (s .first) (s .skip) at (x .is) z
-
-  two : rest t q start at s ≡ checks (read .seven) (adds [] (checks (read .eight) (adds (encoded (w .c)) (rest t q start (at + w .width) (behindOf s (w .width))))))
-  two = ap (λ (r : State). rest t q start at r) (emptied s (x .empty)) ∙ rw (← nothing-added) (read .is)
-
-  pub turn-whole : {r : State} → r ≡ behindOf s (w .width) → GoesOn limit n t q start at s (w .c) (at + w .width) r
-  unfolding bytes
-  turn-whole e =
-      rw e (record {
-        is = λ full room h.
-            ap (cut full limit room n) two
-            ∙ cut-on full limit room n _ _ (x .within)
-            ∙ cut-adds full limit room n 0 [] _ refl h (omega arith)
-            ∙ rw (add-zero n) (cut-on full limit room n _ _ (x .within));
-        body = ap bytes two;
-        low = read .low;
-        high = read .high;
-      })

@@ -23,13 +23,9 @@ use Rattle.string_reading.specs.Ends.{fullAt}
 use Rattle.string_reading.specs.Scans.{begun, readingOf, rest}
 use Rattle.string_scan.specs.Limited.{Answers, GoesOn, Tells}
 use Rattle.string_scan.specs.Kept.{Kept}
+use Rattle.string_scan.specs.Standing.{Written}
 use Rattle.string_scan.specs.declared.Turned.{Turned}
 use Rattle.string_scan.specs.declared.Turned.the-variants.{On, Over}
-
-pub record Written (t : List ℕ) (q : ℕ) (from : Cursor) (old out : List ℕ) (at : ℕ) (s : State) (n : ℕ) : Type 0 where
-  pub same : length out ≡ length old
-  pub count : n + length (bytes (rest t q (from .place) at s)) ≡ length (bytes (readingOf isWhite t q from))
-  pub is : length (bytes (readingOf isWhite t q from)) ≤ length old → sets old 0 (bytes (readingOf isWhite t q from)) ≡ sets out n (bytes (rest t q (from .place) at s))
 
 none-left : (l : List ℕ) → length l ≡ 0 → l ≡ []
 none-left [] e = refl

@@ -1,3 +1,4 @@
 pub mod Limited
 pub mod Kept
-pub mod Escaping
+pub mod Units
+pub mod Standing

@@ -1,4 +1,5 @@
 // The scan of a string literal: the Rust's `parse_string_literal`, with its body written into lent bytes as far as it has room there.
+ghost use mathlib.Core.Bool.{true};
 ghost use mathlib.Core.Path.{_≡_};
 ghost use Prim.Native.Nat.{_-_, _≤_, _<_};
 ghost use lib.ListN.{length, take, drop};
@@ -8,10 +9,11 @@ ghost use Rattle.utf8.specs.Encode.{encoded};
 ghost use Rattle.literal.specs.Cut.{cut};
 ghost use Rattle.literal.specs.declared.Scanned.the-variants.{Refused};
 ghost use Rattle.string_reading.specs.Ends.{tooLongAt, fullAt, lastOf};
-ghost use Rattle.string_reading.specs.Scans.{begun, readingOf};
+ghost use Rattle.string_reading.specs.Scans.{begun, readingOf, Terminating};
 ghost use Rattle.string_scan.specs.Limited.{Answers, Tells};
 ghost use Rattle.string_scan.specs.Kept.{Kept};
-ghost use Rattle.string_scan.specs.Escaping.{Escape-at, behindOf};
+ghost use Rattle.string_scan.specs.Units.{Escape-at, Doubled-at, Unit-at, behindOf};
+ghost use Rattle.string_scan.specs.Standing.{Leads};
 use chars::cursor::Cursor;
 use escape::Whole;
 use fault::Fault;
@@ -29,6 +31,21 @@ use string_take::State;
 const QUOTE: u32 = 0x22;
 
 const APOSTROPHE: u32 = 0x27;
+
+const BACKTICK: u32 = 0x60;
+
+// Nothing was read at once.
+const NONE: Whole = Whole {
+    c: escape::NOTHING,
+    width: 0,
+};
+
+// Where a scan stands: the offset, the state, and the length of the body so far.
+struct Stand {
+    at: usize,
+    state: State,
+    n: usize,
+}
 
 // A turn under a limit: as Step, or the answer.
 enum Turned {
@@ -105,34 +122,82 @@ fn answered(start: Position, limit: usize, n: usize, last: Last) -> Scanned
     }
 }
 
-// The escape at an offset, read at once where a turn under the limit could begin one: in a literal that has escapes, with none
-// pending.
-fn escape_at(text: &[u8], q: u32, limit: usize, n: usize, at: usize, s: State) -> Whole
-    ensures { λ r. ⌜ ((r .width ≡ 0 → ⊥) → Escape-at limit n (now (text .entry)) q at s r) ⌝ }
+// The escape at an offset, read at once in a literal that has escapes.
+fn escape_at(text: &[u8], q: u32, at: usize) -> Whole
+    ensures { λ r. ⌜ ((r .width ≡ 0 → ⊥) → Escape-at (now (text .entry)) q at r) ⌝ }
 {
-    let none = Whole {
-        c: escape::NOTHING,
-        width: 0,
-    };
+    if q == QUOTE {
+        return escape::whole_at(text, q, at);
+    }
+    if q == APOSTROPHE {
+        return escape::whole_at(text, q, at);
+    }
+    NONE
+}
+
+fn is_terminator(q: u32) -> bool
+    ensures { λ r. ⌜ (r ≡ true → Terminating q) ⌝ }
+{
+    if q == QUOTE {
+        return true;
+    }
+    if q == APOSTROPHE {
+        return true;
+    }
+    q == BACKTICK
+}
+
+// A doubled terminator at an offset, where the first place is set and no white space is skipped.
+fn doubled_at(text: &[u8], q: u32, at: usize, s: State) -> Whole
+    ensures { λ r. ⌜ ((r .width ≡ 0 → ⊥) → Doubled-at (now (text .entry)) q at s r) ⌝ }
+{
+    if 0 < s.skip {
+        return NONE;
+    }
+    let first = s.first;
+    if first.is_none() {
+        return NONE;
+    }
+    if text.len() <= at {
+        return NONE;
+    }
+    if text[at] as u32 != q {
+        return NONE;
+    }
+    if text.len() - at < 2 {
+        return NONE;
+    }
+    if text[at + 1] as u32 != q {
+        return NONE;
+    }
+    if is_terminator(q) {
+        return Whole { c: q, width: 2 };
+    }
+    NONE
+}
+
+// What stands at an offset for one character and is read at once, within the limit and with no escape pending: a doubled terminator,
+// or an escape.
+fn unit_at(text: &[u8], q: u32, limit: usize, n: usize, at: usize, s: State) -> Whole
+    ensures { λ r. ⌜ ((r .width ≡ 0 → ⊥) → Unit-at limit n (now (text .entry)) q at s r) ⌝ }
+{
     if literal::is_over(limit, n) {
-        return none;
+        return NONE;
     }
     let pending = s.escape;
     match pending {
-        Pending::Backslash(_) => none,
+        Pending::Backslash(_) => NONE,
         Pending::Empty => {
-            if q == QUOTE {
-                return escape::whole_at(text, q, at);
+            let doubled = doubled_at(text, q, at, s);
+            if doubled.width != 0 {
+                return doubled;
             }
-            if q == APOSTROPHE {
-                return escape::whole_at(text, q, at);
-            }
-            none
+            escape_at(text, q, at)
         }
     }
 }
 
-// The state behind an escape that was read at once: a column on for each of its characters.
+// The state behind what was read at once: a column on for each of its characters.
 fn behind(s: State, width: usize) -> State
     ensures { λ r. ⌜ r ≡ behindOf s width ⌝ }
 {
@@ -145,15 +210,10 @@ fn behind(s: State, width: usize) -> State
     }
 }
 
-// A turn with n bytes in the body: the limit is tested between taking a character and acting on it. A whole escape is two turns.
+// A turn with n bytes in the body: the limit is tested between taking a character and acting on it.
 fn turn(text: &[u8], q: u32, start: Position, limit: usize, n: usize, at: usize, s: State) -> Turned
     ensures { λ r. ⌜ Tells limit n (now (text .entry)) q start at s r ⌝ }
 {
-    let whole = escape_at(text, q, limit, n, at, s);
-    let width = whole.width;
-    if width != 0 {
-        return Turned::On(whole.c, at + width, behind(s, width));
-    }
     match string_take::take(text, q, start, at, s) {
         Got::Over(last) => {
             return Turned::Over(answered(start, limit, n, last));
@@ -197,6 +257,37 @@ fn copy(text: &[u8], at: usize, to: usize, out: &mut [u8], n: usize)
     }
 }
 
+// Reads plain characters, doubled terminators and whole escapes at once, as far as neither the limit nor the room is in the way.
+fn ahead(text: &[u8], q: u32, limit: usize, room: usize, from: Stand, out: &mut [u8]) -> Stand
+    requires { ⌜ from .n ≤ room ⌝ }
+    ensures { λ r. ⌜ Leads (now (text .entry)) q limit room from (now (out .entry)) r (now (out .exit)) ⌝ }
+{
+    let mut at = from.at;
+    let mut s = from.state;
+    let mut n = from.n;
+    loop {
+        let most = literal::most(limit, room, n);
+        let stood = string_take::pass(text, q, most, at, s);
+        copy(text, at, stood.at, &mut *out, n);
+        n += stood.at - at;
+        at = stood.at;
+        s = stood.state;
+        let whole = unit_at(text, q, limit, n, at, s);
+        let width = whole.width;
+        if width == 0 {
+            return Stand { at, state: s, n };
+        }
+        let m = size(whole.c);
+        if room - n < m {
+            return Stand { at, state: s, n };
+        }
+        encoder::put(whole.c, &mut *out, n);
+        n += m;
+        at += width;
+        s = behind(s, width);
+    }
+}
+
 // Inner: the scan of a literal whose start is the cursor's place: how it ends and the length of the body, within a limit and a
 // room. The body goes to the front of `out`, where it is whole if the scan is accepted and it has room there: with no room the
 // literal is only measured. It does not ask the arguments.
@@ -209,12 +300,10 @@ pub fn scan(text: &[u8], from: Cursor, q: u32, limit: usize, room: usize, out: &
     let mut s = begun(start);
     let mut n = 0;
     loop {
-        let most = literal::most(limit, room, n);
-        let stood = string_take::pass(text, q, most, at, s);
-        copy(text, at, stood.at, &mut *out, n);
-        n += stood.at - at;
-        at = stood.at;
-        s = stood.state;
+        let stand = ahead(text, q, limit, room, Stand { at, state: s, n }, &mut *out);
+        at = stand.at;
+        s = stand.state;
+        n = stand.n;
         match turn(text, q, start, limit, n, at, s) {
             Turned::Over(r) => {
                 return r;

@@ -1,6 +1,6 @@
 -- The state is the one that the definition names.
 use borrow.Author.Needs.{needs}
-use Rattle.string_scan.specs.Escaping.{behindOf}
+use Rattle.string_scan.specs.Units.{behindOf}
 use Rattle.string_scan.proofs.behind.Statement.{statement}
 use Rattle.string_scan.proofs.behind.Tie as tie
 

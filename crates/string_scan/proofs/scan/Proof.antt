@@ -1,15 +1,14 @@
--- The invariant is that what is left, with the bytes so far, is answered as the whole (proofs/Measuring.antt), and that the bytes left, stored from here on, make what the whole body makes (proofs/Writing.antt); passing plain characters keeps both.
+-- The invariant is that what is left, with the bytes so far, is answered as the whole (proofs/Measuring.antt), and that the bytes left, stored from here on, make what the whole body makes (proofs/Writing.antt). Reading ahead keeps both.
 use Prim.Native.Nat.{ℕ, _+_, _-_, _≤_, _<_}
 use native.Mathlib.Omega.{arith}
 use mathlib.Core.List.{List}
+use mathlib.Core.Path.{_∙_}
 use lib.ListN.{length}
 use borrow.Author.Needs.{needs}
-use Rattle.string_take.specs.declared.Stood.{Stood}
-use Rattle.string_scan.proofs.Measuring.{Measured, measured-start, measured-over, measured-full, measured-less, measured-more}
-use Rattle.string_scan.proofs.Passing.{passed-low, measured-passed}
-use Rattle.string_scan.proofs.Writing.{Written, written-start, written-more, written-over, full-kept}
-use Rattle.string_scan.proofs.Copying.{written-passed}
-use Rattle.string_scan.proofs.Copying as copying
+use Rattle.string_scan.specs.Standing.{Measured, Written}
+use Rattle.string_scan.specs.declared.Stand.{Stand}
+use Rattle.string_scan.proofs.Measuring.{measured-start, measured-over, measured-full, measured-less, measured-more}
+use Rattle.string_scan.proofs.Writing.{written-start, written-more, written-over, full-kept}
 use Rattle.string_scan.proofs.scan.Statement.{statement}
 use Rattle.string_scan.proofs.scan.Tie as tie
 
@@ -19,48 +18,36 @@ Inv-loop text from q limit room out₀ start at₀ s₀ n₀ out at s n = Measur
 abbrev μ-loop : tie.MeasureT-loop
 μ-loop text from q limit room out₀ start at₀ s₀ n₀ out at s n = length text - at
 
--- behind what was passed, and copied
-module _ (k : tie.After-copy Inv-loop μ-loop) where
-  abbrev call : tie.After-pass Inv-loop μ-loop
-  call = k .before .before
-
+-- behind what was read ahead
+module _ (k : tie.After-ahead Inv-loop μ-loop) where
   abbrev top : tie.At-loop Inv-loop μ-loop
-  top = call .before .before
+  top = k .before .before
 
   abbrev begin : tie.Start Inv-loop μ-loop
   begin = top .before .before .before .before .before
 
-  abbrev there : Stood
-  there = call .pass .result
-
-  abbrev so-far : ℕ
-  so-far = top .loop .n + (there .at - top .loop .at)
-
-  low : (top .loop .at ≤ there .at) × (there .at ≤ top .loop .at + call .before .most .result)
-  low = passed-low _ _ _ _ _ (top .loop .inv .0) (call .before .most .ensures .0) (call .before .most .ensures .1) (call .pass .ensures)
-
-  stands : Measured (begin .args .text .now) (begin .args .from) (begin .args .q) (begin .args .limit) (begin .args .room) (there .at) (there .state) so-far
-  stands = measured-passed _ _ _ _ _ (top .loop .inv .0) (call .before .most .ensures .0) (call .before .most .ensures .1) (call .pass .ensures)
+  abbrev there : Stand
+  there = k .ahead .result
 
   abbrev memory : List ℕ
-  memory = k .copy .last .1 .1 .1 .0
+  memory = k .ahead .last .1 .1 .1 .1 .1 .0
 
-  wrote : Written (begin .args .text .now) (begin .args .q) (begin .args .from) (begin .args .out .now) memory (there .at) (there .state) so-far
-  wrote = written-passed _ _ _ _ _ _ _ _ (top .loop .inv .1) (call .pass .ensures) (k .copy .ensures)
+  stands : Measured (begin .args .text .now) (begin .args .from) (begin .args .q) (begin .args .limit) (begin .args .room) (there .at) (there .state) (there .n)
+  stands = k .ahead .ensures .measured (begin .args .from) (top .loop .inv .0)
+
+  wrote : Written (begin .args .text .now) (begin .args .q) (begin .args .from) (begin .args .out .now) memory (there .at) (there .state) (there .n)
+  wrote = k .ahead .ensures .written (begin .args .from) (begin .args .out .now) (top .loop .inv .1)
 
 -- and behind the turn
 module _ (k : tie.After-turn Inv-loop μ-loop) where
-  abbrev copied : tie.After-copy Inv-loop μ-loop
-  copied = k .before .before .before .before .before
-
-within : (c : tie.After-copy-arg Inv-loop μ-loop) → c .before .before .before .loop .at < c .before .pass .result .at → c .before .pass .result .at ≤ length (c .before .before .before .before .before .before .before .before .args .text .now)
-within c = copying.passed-low _ _ (c .before .before .before .before .before .before .before .before .args .from .place) _ (c .before .pass .ensures) .1
+  abbrev read : tie.After-ahead Inv-loop μ-loop
+  read = k .before .before .before .before
 
 returns : tie.Need-returns Inv-loop μ-loop
 returns c =
     let found = c .before in
     let turn = found .before .before in
-    let k = copied turn in (
+    let k = read turn in (
       measured-over _ _ _ _ _ (stands k) (turn .turn .ensures) (found .r .given .1),
       written-over _ _ _ _ _ _ _ _ (wrote k) _ (turn .turn .ensures) _ (found .r .given .1),
     )
@@ -76,29 +63,29 @@ module _ (c : tie.After-size Inv-loop μ-loop) where
 returns-2 : tie.Need-returns-2 Inv-loop μ-loop
 returns-2 c =
     let size = c .before .before in
-    let k = copied (turned size) in (
+    let k = read (turned size) in (
       measured-full _ _ _ _ _ (stands k) (turned size .turn .ensures) (found size .d .given .1) (size .size .ensures) (c .before .if1 .taken) (c .full .ensures),
       full-kept _ _ _ (c .full .ensures),
     )
 
-add-n-2 : tie.Need-add-n-2 Inv-loop μ-loop
-add-n-2 c =
+add-n : tie.Need-add-n Inv-loop μ-loop
+add-n c =
     let left = c .before .before .before .before in
-    let k = copied (turned (left .before)) in
+    let k = read (turned (left .before)) in
     omega (arith, left .if1 .left, stands k .within, begin k .good)
 
 loop-less : tie.Need-loop-less Inv-loop μ-loop
 loop-less c =
     let size = c .before .before .before .before .before in
-    let k = copied (turned size) in
-    omega (arith, measured-less _ _ _ _ _ (stands k) (turned size .turn .ensures) (found size .d .given .1), low k .0)
+    let k = read (turned size) in
+    omega (arith, measured-less _ _ _ _ _ (stands k) (turned size .turn .ensures) (found size .d .given .1), k .ahead .ensures .low)
 
 loop-again : tie.Need-loop-again Inv-loop μ-loop
 loop-again c =
     let put = c .before .before in
     let left = put .before .before in
     let size = left .before in
-    let k = copied (turned size) in (
+    let k = read (turned size) in (
       measured-more _ _ _ _ _ (stands k) (turned size .turn .ensures) (found size .d .given .1) (size .size .ensures) (left .if1 .left),
       written-more _ _ _ _ _ _ _ _ (wrote k) _ (turned size .turn .ensures) (found size .d .given .1) (size .size .ensures) (put .put .ensures .1),
     )
@@ -111,22 +98,18 @@ scan-spec =
     μ-loop
     (λ c κs. search needs)
     (λ c. (measured-start _ _ _ _ _ (c .begun .ensures), written-start _ _ _ _ (c .begun .ensures)))
-    (λ c κs. c .loop .inv .0 .within)
-    (λ c κs. search needs)
-    (λ c κs. within c)
-    (λ c. low (c .before .before .before) .0)
-    (λ c. let k = c .before .before .before in omega (arith, stands k .within, begin k .good))
+    (λ c κs. c .before .loop .inv .0 .within)
     (λ c κs. search needs)
     (λ c. search needs)
-    (λ c. wrote (copied (c .before .before .before)) .same)
+    (λ c. wrote (read (c .before .before .before)) .same)
     returns
     (λ c. search needs)
     (λ c κs. search needs)
-    (λ c. stands (copied (turned c)) .within)
+    (λ c. stands (read (turned c)) .within)
     (λ c κs. search needs)
-    (λ c. wrote (copied (turned (c .before .before))) .same)
+    (λ c. wrote (read (turned (c .before .before))) .same)
     returns-2
     (λ c κs. search needs)
-    add-n-2
+    add-n
     loop-less
     loop-again)

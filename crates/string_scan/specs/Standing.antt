@@ -1,0 +1,33 @@
+-- Where a scan stands, against the whole reading: what is left to read is answered as the whole, and the bytes that are left make the memory that the whole body makes.
+use Prim.Native.Nat.{ℕ, _+_, _≤_}
+use mathlib.Core.List.{List}
+use mathlib.Core.Path.{_≡_}
+use lib.ListN.{length}
+use lib.Seq.{sets}
+use Rattle.white.specs.White.{isWhite}
+use Rattle.chars.specs.declared.cursor.Cursor.{Cursor}
+use Rattle.literal.specs.Trace.{bytes}
+use Rattle.literal.specs.Cut.{cut}
+use Rattle.string_take.specs.declared.State.{State}
+use Rattle.string_reading.specs.Ends.{fullAt}
+use Rattle.string_reading.specs.Scans.{readingOf, rest}
+use Rattle.string_scan.specs.declared.Stand.{Stand}
+
+-- under a limit and in a room, with n bytes so far
+pub record Measured (t : List ℕ) (from : Cursor) (q limit room at : ℕ) (s : State) (n : ℕ) : Type 0 where
+  pub within : n ≤ room
+  pub is : cut (fullAt from) limit room 0 (readingOf isWhite t q from) ≡ cut (fullAt from) limit room n (rest t q (from .place) at s)
+
+-- in memory that was old and is now out, where the body has room
+pub record Written (t : List ℕ) (q : ℕ) (from : Cursor) (old out : List ℕ) (at : ℕ) (s : State) (n : ℕ) : Type 0 where
+  pub same : length out ≡ length old
+  pub count : n + length (bytes (rest t q (from .place) at s)) ≡ length (bytes (readingOf isWhite t q from))
+  pub is : length (bytes (readingOf isWhite t q from)) ≤ length old → sets old 0 (bytes (readingOf isWhite t q from)) ≡ sets out n (bytes (rest t q (from .place) at s))
+
+-- a scan that stands so before stands so behind, further on, in memory as long as it was
+pub record Leads (t : List ℕ) (q limit room : ℕ) (from : Stand) (out : List ℕ) (to : Stand) (now : List ℕ) : Type 0 where
+  pub measured : (c : Cursor) → Measured t c q limit room (from .at) (from .state) (from .n) → Measured t c q limit room (to .at) (to .state) (to .n)
+  pub written : (c : Cursor) (old : List ℕ) → Written t q c old out (from .at) (from .state) (from .n) → Written t q c old now (to .at) (to .state) (to .n)
+  pub low : from .at ≤ to .at
+  pub within : to .n ≤ room
+  pub same : length now ≡ length out
