@@ -1,4 +1,5 @@
 pub mod Standing
 pub mod Longer
-pub mod Sizes
+pub mod Fronts
+pub mod Begun
 pub mod Examples

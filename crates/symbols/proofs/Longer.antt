@@ -13,7 +13,6 @@ use Rattle.basis.proofs.Cases.{pick-cases, not-both, both-left, both-right}
 use Rattle.token.specs.Keywords.{Entry, keywords, blank, entryAt}
 use Rattle.keywords.specs.Lookup.{begins}
 use Rattle.symbols.specs.Symbols.{isSymbol, stands, standing, longer, longestIn, longestOf, longestSymbolOf}
-use Rattle.symbols.specs.Sizes.{sizeOf}
 use Rattle.symbols.specs.declared.Longest.{Longest}
 use Rattle.symbols.specs.declared.Longest.the-variants.{Symbol, Nothing}
 use Rattle.token.proofs.Places.{many}
@@ -26,6 +25,11 @@ pub record Stands (s : List ℕ) (t n : ℕ) : Type 0 where
   pub token : entryAt place .token ≡ t
   pub size : length (entryAt place .text) ≡ n
   pub there : stands s (entryAt place) ≡ true
+
+-- the length of a symbol, 0 for nothing
+unfoldable pub sizeOf : Longest → ℕ
+sizeOf Nothing = 0
+sizeOf (Symbol t n) = n
 
 -- ---- the longer of two is one of them, and no shorter than either
 one-of : (a b r : Longest) → longer a b ≡ r → (a ≡ r) ⊎ (b ≡ r)
@@ -84,7 +88,7 @@ module _ (s : List ℕ) where
   symbol-some [] z = not-both z refl
   symbol-some (b ∷ w) z = omega arith
 
-  pub stands-some : (e : Entry) → stands s e ≡ true → 0 < length (e .text)
+  stands-some : (e : Entry) → stands s e ≡ true → 0 < length (e .text)
   unfolding stands
   stands-some e z = symbol-some (e .text) (both-left (isSymbol (e .text)) _ z)
 

@@ -1,2 +1,2 @@
 pub mod Symbols
-pub mod Sizes
+pub mod Begun

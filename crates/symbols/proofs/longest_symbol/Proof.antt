@@ -9,10 +9,8 @@ longest-symbol-spec =
     tie.close
     (tie.spec
     (λ c. nothing-past _ _ (c .if1 .taken))
-    (λ c κs. search needs)
-    (λ c. search needs)
     (λ c. search needs)
     (λ c. search needs)
     (λ c. search needs)
     (λ c κs. search needs)
-    (λ c. from-offset _ _ _ (c .longest-in .ensures)))
+    (λ c. from-offset _ _ _ (c .longest-of .ensures)))
