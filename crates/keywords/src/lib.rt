@@ -1,62 +1,59 @@
 // Keywords and symbols: which token a text is, by the list of `token`.
 ghost use mathlib.Core.Path.{_≡_};
+ghost use Prim.Native.Nat.{_≤_};
+ghost use lib.ListN.{length};
 ghost use Rattle.token.specs.Table.{table};
-ghost use Rattle.keywords.specs.Lookup.{begins, same, lookupOf};
+ghost use Rattle.word_table.specs.Spelt.{numberOf};
+ghost use Rattle.keywords.specs.Lookup.{lookupOf};
 use token::Lookup;
+use token::tokens::EOF;
 
-// Inner: whether a text begins with a word.
-pub fn starts_with(text: &[u8], word: &[u8]) -> bool
-    ensures { λ r. ⌜ r ≡ begins (now (word .entry)) (now (text .entry)) ⌝ }
+// No listed text is longer, and so a machine's word holds each as a number.
+const LONGEST: usize = 8;
+
+// A text as one number.
+fn number_of(text: &[u8]) -> u64
+    requires { ⌜ length (now text) ≤ 8 ⌝ }
+    ensures { λ r. ⌜ r ≡ numberOf (now (text .entry)) ⌝ }
 {
-    if text.len() < word.len() {
-        return false;
-    }
+    let mut v: u64 = 0;
     let mut i = 0;
-    while i < word.len() {
-        if word[i] != text[i] {
-            return false;
-        }
+    while i < text.len() {
+        v = v * 256 + text[i] as u64;
         i += 1;
     }
-    true
+    v
 }
 
-// Whether a text is a word.
-fn is_word(text: &[u8], word: &[u8]) -> bool
-    ensures { λ r. ⌜ r ≡ same (now (word .entry)) (now (text .entry)) ⌝ }
-{
-    if word.len() != text.len() {
-        return false;
-    }
-    starts_with(text, word)
-}
-
-// Inner: the lookup in a copy of `words()` that the caller lends. It walks the places whose text
-// begins with the text's first byte, four at most, and compares lengths before bytes.
-pub fn lookup_in(words: &[u8], text: &[u8]) -> Lookup
-    requires { ⌜ now words ≡ table ⌝ }
+// The token of a keyword or symbol; none for any other text. It walks the tokens whose texts begin
+// with the text's first byte, four at most, and compares numbers.
+pub fn lookup_symbol_from_syntax(text: &[u8]) -> Lookup
     ensures { λ r. ⌜ r ≡ lookupOf (now (text .entry)) ⌝ }
 {
     if text.len() == 0 {
         return Lookup::None;
     }
-    let mut k = word_table::first_place(words, text[0]);
-    while k < 153 {
-        let place = word_table::place_at(words, k);
-        let from = place.from;
-        let to = place.to;
-        if is_word(text, &words[from..to]) {
-            return Lookup::Some(place.token);
+    if LONGEST < text.len() {
+        return Lookup::None;
+    }
+    let mut token = word_table::first_of(text[0]);
+    if token == EOF {
+        return Lookup::None;
+    }
+    let v = number_of(text);
+    while token != EOF {
+        if word_table::spelt(token) == v {
+            return Lookup::Some(token);
         }
-        k = place.next;
+        token = word_table::next_of(token);
     }
     Lookup::None
 }
 
-// The token of a keyword or symbol; none for any other text.
-pub fn lookup_symbol_from_syntax(text: &[u8]) -> Lookup
+// Inner: the same, for callers that hold a table of the words.
+pub fn lookup_in(words: &[u8], text: &[u8]) -> Lookup
+    requires { ⌜ now words ≡ table ⌝ }
     ensures { λ r. ⌜ r ≡ lookupOf (now (text .entry)) ⌝ }
 {
-    let words = token::words();
-    lookup_in(&words, text)
+    lookup_symbol_from_syntax(text)
 }

@@ -3,10 +3,10 @@ use mathlib.Core.Path.{_≡_, refl}
 use mathlib.Core.List.{[]}
 use Rattle.basis.specs.Words.{word}
 use Rattle.token.specs.Tokens as Token
-use Rattle.token.specs.Keywords.{keywords}
+use Rattle.token.specs.Keywords.{keywords, textIn}
 use Rattle.token.specs.declared.Lookup.the-variants.{Some}
 use Rattle.keywords.specs.Lookup.{begins, same, lookupIn, lookupOf}
-use Rattle.syntax.specs.Syntax.{textIn, writtenAs, literalSyntaxOf}
+use Rattle.syntax.specs.Syntax.{writtenAs, literalSyntaxOf}
 
 pub record Worked : Type 0 where
   pub unary-plus : lookupOf (literalSyntaxOf Token.UnaryPlus) ≡ Some Token.Plus

@@ -10,9 +10,9 @@ use borrow.Author.Tests.{eqb-true, eqb-false, ne-eqb}
 use Rattle.basis.specs.Pick.{both, either}
 use Rattle.basis.specs.Words.{word}
 use Rattle.basis.proofs.Cases.{true-left, true-right, pick-cases}
-use Rattle.token.specs.Keywords.{Entry, keywords, blank, entryAt}
+use Rattle.token.specs.Keywords.{Entry, keywords, blank, entryAt, textIn}
 use Rattle.keywords.specs.Lookup.{begins, same, lookupIn, lookupOf}
-use Rattle.syntax.specs.Syntax.{textIn, writtenAs, literalSyntaxOf}
+use Rattle.syntax.specs.Syntax.{writtenAs, literalSyntaxOf}
 use Rattle.token.specs.declared.Lookup.{Lookup}
 use Rattle.token.specs.declared.Lookup.the-variants.{Some, None}
 use Rattle.token.proofs.Places.{many}

@@ -1,15 +1,10 @@
 -- `literal_syntax` of `types/token.rs`. Document 01: "`literal_syntax` of a listed token looks up as that token; UnaryPlus and UnaryMinus look up as Plus and Minus. For any other token, or a number naming none, the text is empty where the Rust panics."
 use Prim.Native.Nat.{ℕ}
-use mathlib.Core.List.{List, [], _∷_}
+use mathlib.Core.List.{List}
 use lib.Dec.{eqb}
 use Rattle.basis.specs.Pick.{pick}
 use Rattle.token.specs.Tokens as Token
-use Rattle.token.specs.Keywords.{Entry, keywords}
-
--- the text of the first place that has the token
-unfoldable pub textIn : List Entry → ℕ → List ℕ
-textIn [] t = []
-textIn (e ∷ es) t = pick (eqb (e .token) t) (e .text) (textIn es t)
+use Rattle.token.specs.Keywords.{keywords, textIn}
 
 -- the token that a token is written as: the unary signs are written as the binary ones
 unfoldable pub writtenAs : ℕ → ℕ

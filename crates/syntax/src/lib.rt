@@ -1,27 +1,31 @@
 // The text of a token: the Rust's `literal_syntax`.
 ghost use mathlib.Core.Path.{_≡_};
+ghost use Prim.Native.Nat.{_≤_};
+ghost use lib.ListN.{length, drop};
 ghost use Rattle.lent.specs.Written.{writtenOf, leftOf};
-ghost use Rattle.token.specs.Keywords.{keywords};
-ghost use Rattle.token.specs.Table.{table};
-ghost use Rattle.syntax.specs.Syntax.{textIn, writtenAs, literalSyntaxOf};
+ghost use Rattle.token.specs.Keywords.{keywords, textIn};
+ghost use Rattle.syntax.specs.Syntax.{writtenAs, literalSyntaxOf};
 use token::tokens::*;
 
-// The text of the first place that has a token; empty for none.
-fn text_of<'a>(words: &'a [u8], token: u8) -> &'a [u8]
-    requires { ⌜ now words ≡ table ⌝ }
-    ensures { λ r. ⌜ now r ≡ textIn keywords token ⌝ }
+// A token's text, in the last of eight bytes, and where it starts there.
+struct Text {
+    bytes: [u8; 8],
+    at: usize,
+}
+
+// The text of a token, empty for none: the bytes of its number, the last one first.
+fn text_of(token: u8) -> Text
+    ensures { λ r. ⌜ (r .at ≤ 8) × (length (r .bytes) ≡ 8) × (drop (r .at) (r .bytes) ≡ textIn keywords token) ⌝ }
 {
-    let mut k = 0;
-    while k < 153 {
-        let place = word_table::place_at(words, k);
-        if place.token == token {
-            let from = place.from;
-            let to = place.to;
-            return &words[from..to];
-        }
-        k += 1;
+    let mut v = word_table::spelt(token);
+    let mut bytes = [0u8; 8];
+    let mut at = 8;
+    while 0 < v {
+        at -= 1;
+        bytes[at] = (v % 256) as u8;
+        v = v / 256;
     }
-    &words[0..0]
+    Text { bytes, at }
 }
 
 // The token that a token is written as.
@@ -43,6 +47,8 @@ pub fn literal_syntax(token: u8, out: &mut [u8]) -> lent::Written
     ensures { λ r. ⌜ r ≡ writtenOf (literalSyntaxOf token) (now (out .entry)) ⌝ }
     ensures { λ r. ⌜ now (out .exit) ≡ leftOf (literalSyntaxOf token) (now (out .entry)) ⌝ }
 {
-    let words = token::words();
-    lent::write(text_of(&words, written_as(token)), out)
+    let text = text_of(written_as(token));
+    let bytes = text.bytes;
+    let at = text.at;
+    lent::write(&bytes[at..], out)
 }

@@ -2,7 +2,9 @@
 use Prim.Native.Nat.{ℕ}
 use Prim.Native.String.{String}
 use mathlib.Core.List.{List, [], _∷_}
+use lib.Dec.{eqb}
 use lib.ListN.{getD}
+use Rattle.basis.specs.Pick.{pick}
 use Rattle.basis.specs.Words.{word}
 use Rattle.token.specs.Tokens as Token
 
@@ -180,3 +182,8 @@ blank = entry "" Token.EOF
 -- the place k; past the end, one that lists nothing
 unfoldable pub entryAt : ℕ → Entry
 entryAt k = getD keywords k blank
+
+-- the text of the first place that has the token
+unfoldable pub textIn : List Entry → ℕ → List ℕ
+textIn [] t = []
+textIn (e ∷ es) t = pick (eqb (e .token) t) (e .text) (textIn es t)

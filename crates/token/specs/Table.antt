@@ -6,7 +6,6 @@ use lib.Dec.{eqb}
 use lib.ListN.{length, getD, take, drop}
 use Rattle.basis.specs.Pick.{pick}
 use Rattle.token.specs.Keywords.{Entry, keywords, entryAt}
-use Rattle.token.specs.declared.Place.{Place}
 
 -- a text begins with the byte
 unfoldable pub starts : ℕ → List ℕ → Bool
@@ -48,12 +47,3 @@ table =
     ++ (tabulated textStart 0 154
     ++ (tabulated (λ k. entryAt k .token) 0 153
     ++ textsOf keywords)))
-
--- a place as its reader answers it: the texts start at 716, behind the other four parts
-unfoldable pub placeOf : ℕ → Place
-placeOf k = record {
-  token = entryAt k .token;
-  from = 716 + textStart k;
-  to = 716 + textStart (suc k);
-  next = nextPlace k;
-}

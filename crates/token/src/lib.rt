@@ -10,15 +10,6 @@ pub enum Lookup {
     None,
 }
 
-// A place of the list: its token, where its text stands in the table, and the next place whose text
-// begins with the same byte, 153 for none.
-pub struct Place {
-    pub token: u8,
-    pub from: usize,
-    pub to: usize,
-    pub next: usize,
-}
-
 // The list as bytes, made as `specs/Table.antt` says: for each byte its first place; for each of the
 // 153 places the next one, where its text starts, and its token; then the texts.
 const WORDS: [u8; 909] = *b"\

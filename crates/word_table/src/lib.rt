@@ -1,42 +1,187 @@
-// The readers of the table of keywords and symbols that `token` has: the places of the list, one after the other.
+// The words as tables that the machine holds ready: each function here is one match that answers a
+// number, so a caller reads an entry and rebuilds nothing. A word is found by walking the tokens
+// whose texts begin with its first byte.
 ghost use mathlib.Core.Path.{_≡_};
-ghost use Prim.Native.Nat.{_<_};
-ghost use Rattle.token.specs.Table.{table, firstPlace, placeOf};
-use token::Place;
+ghost use Rattle.word_table.specs.Spelt.{speltOf, firstOf, nextOf};
+use token::tokens::*;
 
-// Where the parts of the table start.
-const FIRSTS: usize = 0;
-
-const NEXTS: usize = 256;
-
-const STARTS: usize = 409;
-
-const TOKENS: usize = 563;
-
-const TEXTS: usize = 716;
-
-// Inner: the first place whose text begins with a byte, 153 for none, by a copy of `words()` that
-// the caller lends.
-pub fn first_place(words: &[u8], b: u8) -> usize
-    requires { ⌜ now words ≡ table ⌝ }
-    ensures { λ r. ⌜ r ≡ firstPlace b ⌝ }
+// Inner: the first token, in the order of the list, whose text begins with a byte; EOF for none.
+pub fn first_of(b: u8) -> u8
+    ensures { λ r. ⌜ r ≡ firstOf b ⌝ }
 {
-    words[FIRSTS + b as usize] as usize
+    match b {
+        b'!' => BANG,
+        b'#' => MAP_START,
+        b'%' => MODULO,
+        b'&' => AMPERSAND,
+        b'(' => LEFT_PAREN,
+        b')' => RIGHT_PAREN,
+        b'*' => MULTIPLY,
+        b'+' => PLUS,
+        b',' => COMMA,
+        b'-' => MINUS,
+        b'.' => PERIOD,
+        b'/' => DIVIDE,
+        b':' => COLON,
+        b';' => SEMI_COLON,
+        b'<' => LESS_THAN,
+        b'=' => EQUALS,
+        b'>' => GREATER_THAN,
+        b'?' => ELVIS,
+        b'[' => LEFT_BRACKET,
+        b']' => RIGHT_BRACKET,
+        b'^' => XOR,
+        b'_' => UNDERSCORE,
+        b'a' => AS,
+        b'b' => BREAK,
+        b'c' => CONST,
+        b'd' => DO,
+        b'e' => ELSE,
+        b'f' => FOR,
+        b'i' => IMPORT,
+        b'l' => LOOP,
+        b'p' => PRIVATE,
+        b'r' => RETURN,
+        b's' => SWITCH,
+        b't' => THROW,
+        b'u' => UNTIL,
+        b'w' => WHILE,
+        b'{' => LEFT_BRACE,
+        b'|' => PIPE,
+        b'}' => RIGHT_BRACE,
+        _ => EOF,
+    }
 }
 
-// Inner: a place of the list, by such a copy.
-pub fn place_at(words: &[u8], k: usize) -> Place
-    requires { ⌜ (now words ≡ table) × (k < 153) ⌝ }
-    ensures { λ r. ⌜ r ≡ placeOf k ⌝ }
+// Inner: the next token whose text begins with the byte that a token's own begins with; EOF for none.
+pub fn next_of(token: u8) -> u8
+    ensures { λ r. ⌜ r ≡ nextOf token ⌝ }
 {
-    let token = words[TOKENS + k];
-    let from = TEXTS + words[STARTS + k] as usize;
-    let to = TEXTS + words[STARTS + 1 + k] as usize;
-    let next = words[NEXTS + k] as usize;
-    Place {
-        token,
-        from,
-        to,
-        next,
+    match token {
+        LEFT_PAREN => UNIT,
+        PLUS => PLUS_ASSIGN,
+        MINUS => MINUS_ASSIGN,
+        MULTIPLY => MULTIPLY_ASSIGN,
+        DIVIDE => DIVIDE_ASSIGN,
+        MODULO => MODULO_ASSIGN,
+        POWER_OF => POWER_OF_ASSIGN,
+        LEFT_SHIFT => LEFT_SHIFT_ASSIGN,
+        RIGHT_SHIFT => RIGHT_SHIFT_ASSIGN,
+        COLON => DOUBLE_COLON,
+        PERIOD => EXCLUSIVE_RANGE,
+        ELVIS => QUESTION_BRACKET,
+        QUESTION_BRACKET => DOUBLE_QUESTION,
+        EXCLUSIVE_RANGE => INCLUSIVE_RANGE,
+        EQUALS => EQUALS_TO,
+        FALSE => FN,
+        CONST => CONTINUE,
+        ELSE => EXPORT,
+        LOOP => LET,
+        FOR => FALSE,
+        IN => IF,
+        LESS_THAN => LESS_THAN_EQUALS_TO,
+        GREATER_THAN => GREATER_THAN_EQUALS_TO,
+        LESS_THAN_EQUALS_TO => LEFT_SHIFT,
+        GREATER_THAN_EQUALS_TO => RIGHT_SHIFT,
+        EQUALS_TO => DOUBLE_ARROW,
+        NOT_EQUALS_TO => NOT_IN,
+        BANG => NOT_EQUALS_TO,
+        PIPE => OR_ASSIGN,
+        XOR => XOR_ASSIGN,
+        AMPERSAND => AND_ASSIGN,
+        CONTINUE => CATCH,
+        THROW => TRY,
+        TRY => TRUE,
+        MULTIPLY_ASSIGN => POWER_OF,
+        AND_ASSIGN => AND,
+        OR_ASSIGN => OR,
+        IMPORT => IN,
+        _ => EOF,
+    }
+}
+
+// Inner: a token's text as one number, a byte for two hex digits; 0 for a token without one.
+pub fn spelt(token: u8) -> u64
+    ensures { λ r. ⌜ r ≡ speltOf token ⌝ }
+{
+    match token {
+        LEFT_BRACE => 0x7B,
+        RIGHT_BRACE => 0x7D,
+        LEFT_PAREN => 0x28,
+        RIGHT_PAREN => 0x29,
+        LEFT_BRACKET => 0x5B,
+        RIGHT_BRACKET => 0x5D,
+        UNIT => 0x2829,
+        PLUS => 0x2B,
+        MINUS => 0x2D,
+        MULTIPLY => 0x2A,
+        DIVIDE => 0x2F,
+        MODULO => 0x25,
+        POWER_OF => 0x2A2A,
+        LEFT_SHIFT => 0x3C3C,
+        RIGHT_SHIFT => 0x3E3E,
+        SEMI_COLON => 0x3B,
+        COLON => 0x3A,
+        DOUBLE_COLON => 0x3A3A,
+        DOUBLE_ARROW => 0x3D3E,
+        UNDERSCORE => 0x5F,
+        COMMA => 0x2C,
+        PERIOD => 0x2E,
+        ELVIS => 0x3F2E,
+        DOUBLE_QUESTION => 0x3F3F,
+        QUESTION_BRACKET => 0x3F5B,
+        EXCLUSIVE_RANGE => 0x2E2E,
+        INCLUSIVE_RANGE => 0x2E2E3D,
+        MAP_START => 0x237B,
+        EQUALS => 0x3D,
+        TRUE => 0x74727565,
+        FALSE => 0x66616C7365,
+        LET => 0x6C6574,
+        CONST => 0x636F6E7374,
+        IF => 0x6966,
+        ELSE => 0x656C7365,
+        SWITCH => 0x737769746368,
+        DO => 0x646F,
+        WHILE => 0x7768696C65,
+        UNTIL => 0x756E74696C,
+        LOOP => 0x6C6F6F70,
+        FOR => 0x666F72,
+        IN => 0x696E,
+        NOT_IN => 0x21696E,
+        LESS_THAN => 0x3C,
+        GREATER_THAN => 0x3E,
+        LESS_THAN_EQUALS_TO => 0x3C3D,
+        GREATER_THAN_EQUALS_TO => 0x3E3D,
+        EQUALS_TO => 0x3D3D,
+        NOT_EQUALS_TO => 0x213D,
+        BANG => 0x21,
+        PIPE => 0x7C,
+        OR => 0x7C7C,
+        XOR => 0x5E,
+        AMPERSAND => 0x26,
+        AND => 0x2626,
+        FN => 0x666E,
+        CONTINUE => 0x636F6E74696E7565,
+        BREAK => 0x627265616B,
+        RETURN => 0x72657475726E,
+        THROW => 0x7468726F77,
+        TRY => 0x747279,
+        CATCH => 0x6361746368,
+        PLUS_ASSIGN => 0x2B3D,
+        MINUS_ASSIGN => 0x2D3D,
+        MULTIPLY_ASSIGN => 0x2A3D,
+        DIVIDE_ASSIGN => 0x2F3D,
+        LEFT_SHIFT_ASSIGN => 0x3C3C3D,
+        RIGHT_SHIFT_ASSIGN => 0x3E3E3D,
+        AND_ASSIGN => 0x263D,
+        OR_ASSIGN => 0x7C3D,
+        XOR_ASSIGN => 0x5E3D,
+        MODULO_ASSIGN => 0x253D,
+        POWER_OF_ASSIGN => 0x2A2A3D,
+        PRIVATE => 0x70726976617465,
+        IMPORT => 0x696D706F7274,
+        EXPORT => 0x6578706F7274,
+        AS => 0x6173,
+        _ => 0,
     }
 }

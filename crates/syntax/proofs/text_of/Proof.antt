@@ -1,54 +1,26 @@
--- The loop keeps that no place that it passed has the token.
-use Prim.Native.Nat.{_-_}
+-- The loop keeps that the bytes put down are the last of the token's number.
 use native.Mathlib.Omega.{arith}
-use mathlib.Core.Path.{_≡_}
+use mathlib.Core.Path.{refl}
 use borrow.Author.Needs.{needs}
-use Rattle.token.specs.Table.{table}
-use Rattle.token.proofs.Places.{place-token, place-order, place-end, place-text}
-use Rattle.syntax.proofs.Texts.{Passed, passed-none, passed-all, passed-more, text-found}
+use Rattle.word_table.specs.Spelt.{speltOf}
+use Rattle.syntax.proofs.Texts.{Spelling, spelling-none, spelling-room, spelling-more, spelling-all}
 use Rattle.syntax.proofs.text_of.Statement.{statement}
 use Rattle.syntax.proofs.text_of.Tie as tie
 
 abbrev Inv-loop : tie.InvT-loop
-Inv-loop words token k₀ k = (words ≡ table) × Passed token k
+Inv-loop token v₀ bytes₀ at₀ v bytes at = Spelling (speltOf token) bytes at v
 
 abbrev μ-loop : tie.MeasureT-loop
-μ-loop words token k₀ k = 153 - k
+μ-loop token v₀ bytes₀ at₀ v bytes at = at
 
-sub-result : tie.Need-sub-result Inv-loop μ-loop
-sub-result c =
-    let read = c .before .before in
-    let test = read .before in
-    place-order _ (test .before .loop .inv .0) _ (test .loop-test .taken) _ (read .place-at .ensures)
+sub-at : tie.Need-sub-at Inv-loop μ-loop
+sub-at c = omega (arith, spelling-room _ _ _ _ (c .before .loop .inv) (c .loop-test .taken))
 
-part-result-start : tie.Need-part-result-start Inv-loop μ-loop
-part-result-start c =
-    let read = c .before .before in
-    let test = read .before in
-    place-order _ (test .before .loop .inv .0) _ (test .loop-test .taken) _ (read .place-at .ensures)
+array-write-bytes : tie.Need-array-write-bytes Inv-loop μ-loop
+array-write-bytes c = let top = c .before .loop in omega (arith, spelling-room _ _ _ _ (top .inv) (c .loop-test .taken), top .inv .within, top .inv .room)
 
-part-result-end : tie.Need-part-result-end Inv-loop μ-loop
-part-result-end c =
-    let read = c .before .before in
-    let test = read .before in
-    place-end _ (test .before .loop .inv .0) _ (test .loop-test .taken) _ (read .place-at .ensures)
-
-returns : tie.Need-returns Inv-loop μ-loop
-returns c =
-    let read = c .before .before .before in
-    let test = read .before in
-    let top = test .before .loop in
-    let place = read .place-at .ensures in
-    text-found _ _ (top .inv .1) (test .loop-test .taken) _ (place-token _ (top .inv .0) _ (test .loop-test .taken) _ place) (c .before .if1 .taken) _
-    (place-text _ (top .inv .0) _ (test .loop-test .taken) _ place)
-
-loop-again : tie.Need-loop-again Inv-loop μ-loop
-loop-again c =
-    let read = c .before .before in
-    let test = read .before in
-    let top = test .before .loop in
-    let token = place-token _ (top .inv .0) _ (test .loop-test .taken) _ (read .place-at .ensures) in
-    (top .inv .0, passed-more _ _ (top .inv .1) (test .loop-test .taken) _ token (c .if1 .left))
+loop-less : tie.Need-loop-less Inv-loop μ-loop
+loop-less c = omega (arith, spelling-room _ _ _ _ (c .before .loop .inv) (c .loop-test .taken))
 
 pub text-of-spec : {M : Type 1} → statement M
 text-of-spec =
@@ -56,16 +28,11 @@ text-of-spec =
     (tie.spec
     Inv-loop
     μ-loop
-    (λ c. (c .before .pre, passed-none _))
     (λ c κs. search needs)
-    sub-result
-    part-result-start
-    part-result-end
-    returns
-    (λ c. omega arith)
-    (λ c. omega arith)
-    loop-again
-    (λ c. omega arith)
+    (λ c. spelling-none _ _ refl _ (c .spelt .ensures) (omega arith))
+    sub-at
     (λ c. search needs)
-    (λ c. search needs)
-    (λ c. passed-all _ _ (c .before .before .loop .inv .1) (c .before .loop-test .left)))
+    array-write-bytes
+    loop-less
+    (λ c. spelling-more _ _ _ _ (c .before .loop .inv) (c .loop-test .taken))
+    (λ c. (c .before .loop .inv .within, c .before .loop .inv .room, spelling-all _ (omega arith) _ _ _ (c .before .loop .inv) (c .loop-test .left))))
