@@ -3,7 +3,6 @@ ghost use mathlib.Core.Path.{_≡_};
 ghost use mathlib.Core.Bool.{true};
 ghost use Prim.Native.Nat.{_+_, _≤_, _<_};
 ghost use lib.ListN.{length};
-ghost use Rattle.token.specs.Table.{table};
 ghost use Rattle.book.specs.Book.{good};
 ghost use Rattle.utf8.specs.Table.{lookAt};
 ghost use Rattle.symbols.specs.Symbols.{longestSymbolOf};
@@ -80,11 +79,11 @@ impl Found {
 }
 
 // The longest listed symbol, whose first character is at a place; or 5, about a character so many bytes wide.
-fn symbol(words: &[u8], text: &[u8], at: usize, place: Position, width: usize) -> Found
-    requires { ⌜ (now words ≡ table) × (at ≤ length (now text)) ⌝ }
+fn symbol(text: &[u8], at: usize, place: Position, width: usize) -> Found
+    requires { ⌜ at ≤ length (now text) ⌝ }
     ensures { λ r. ⌜ r ≡ symbolOf at width place (longestSymbolOf (now (text .entry)) at) ⌝ }
 {
-    let Longest::Symbol(token, n) = symbols::longest_in(words, &text[at..]) else {
+    let Longest::Symbol(token, n) = symbols::longest_of(&text[at..]) else {
         return Found::Wrong(Fault {
             number: Fault::UNEXPECTED_INPUT,
             place,
@@ -131,8 +130,8 @@ fn code_at(text: &[u8], at: usize) -> u32
 }
 
 // What `/` begins, by the character behind it.
-fn slash(words: &[u8], text: &[u8], at: usize, place: Position, d: u32) -> Found
-    requires { ⌜ (now words ≡ table) × (at + 1 ≤ length (now text)) × (d ≡ codeOf (lookAt (now text) (at + 1))) ⌝ }
+fn slash(text: &[u8], at: usize, place: Position, d: u32) -> Found
+    requires { ⌜ (at + 1 ≤ length (now text)) × (d ≡ codeOf (lookAt (now text) (at + 1))) ⌝ }
     ensures { λ r. ⌜ r ≡ slashOf (now (text .entry)) at place d ⌝ }
 {
     let from = Cursor {
@@ -149,23 +148,23 @@ fn slash(words: &[u8], text: &[u8], at: usize, place: Position, d: u32) -> Found
     if d == STAR {
         return block(text, from);
     }
-    symbol(words, text, at, place, 1)
+    symbol(text, at, place, 1)
 }
 
 // What `#` begins, by the character behind it.
-fn hash(words: &[u8], text: &[u8], at: usize, place: Position, d: u32) -> Found
-    requires { ⌜ (now words ≡ table) × (at + 1 ≤ length (now text)) ⌝ }
+fn hash(text: &[u8], at: usize, place: Position, d: u32) -> Found
+    requires { ⌜ at + 1 ≤ length (now text) ⌝ }
     ensures { λ r. ⌜ r ≡ hashOf (now (text .entry)) at place d ⌝ }
 {
     if d == LEFT_BRACE {
-        return symbol(words, text, at, place, 1);
+        return symbol(text, at, place, 1);
     }
     Found::Literal(Found::RAW, Cursor { at: at + 1, place })
 }
 
 // What a character begins that is not white, no letter, no `_` and no digit.
-fn mark(words: &[u8], text: &[u8], at: usize, place: Position, c: u32, width: usize) -> Found
-    requires { ⌜ (now words ≡ table) × (at + width ≤ length (now text)) × (1 ≤ width) ⌝ }
+fn mark(text: &[u8], at: usize, place: Position, c: u32, width: usize) -> Found
+    requires { ⌜ (at + width ≤ length (now text)) × (1 ≤ width) ⌝ }
     ensures { λ r. ⌜ r ≡ markOf (now (text .entry)) at place c width ⌝ }
 {
     let next = Cursor {
@@ -182,20 +181,20 @@ fn mark(words: &[u8], text: &[u8], at: usize, place: Position, c: u32, width: us
         return Found::Literal(Found::TEXT, next);
     }
     if c == HASH {
-        return hash(words, text, at, place, code_at(text, at + 1));
+        return hash(text, at, place, code_at(text, at + 1));
     }
     if c == SLASH {
-        return slash(words, text, at, place, code_at(text, at + 1));
+        return slash(text, at, place, code_at(text, at + 1));
     }
-    symbol(words, text, at, place, width)
+    symbol(text, at, place, width)
 }
 
 // A name, a keyword, a reserved word, the symbol `_`; or 8.
-fn word(words: &[u8], book: &[u8], text: &[u8], start: Cursor) -> Found
-    requires { ⌜ (now words ≡ table) × (good (now book) ≡ true) ⌝ }
+fn word(book: &[u8], text: &[u8], start: Cursor) -> Found
+    requires { ⌜ good (now book) ≡ true ⌝ }
     ensures { λ r. ⌜ r ≡ wordOf (identifyOf (now (text .entry)) (now (book .entry)) start) ⌝ }
 {
-    let identified = identifier::identify(words, book, text, start);
+    let identified = identifier::identify(book, text, start);
     match identified {
         Identified::Found(word) => {
             let end = word.cursor;
@@ -242,10 +241,10 @@ pub fn skip(text: &[u8], from: Cursor) -> Cursor
     }
 }
 
-// Inner: what begins behind a cursor, for a run, which has checked its text and its book and holds the words. Letters come first,
-// since most tokens begin with one; none is white.
-pub fn find(words: &[u8], book: &[u8], text: &[u8], from: Cursor) -> Found
-    requires { ⌜ (now words ≡ table) × (good (now book) ≡ true) ⌝ }
+// Inner: what begins behind a cursor, for a run, which has checked its text and its book. Letters come first, since most tokens
+// begin with one; none is white.
+pub fn find(book: &[u8], text: &[u8], from: Cursor) -> Found
+    requires { ⌜ good (now book) ≡ true ⌝ }
     ensures { λ r. ⌜ r ≡ findOf (now (text .entry)) (now (book .entry)) from ⌝ }
 {
     let at = from.at;
@@ -258,10 +257,10 @@ pub fn find(words: &[u8], book: &[u8], text: &[u8], from: Cursor) -> Found
         place,
     };
     if classes::is_id_first_alphabetic(c) {
-        return word(words, book, text, Cursor { at, place });
+        return word(book, text, Cursor { at, place });
     }
     if c == UNDERSCORE {
-        return word(words, book, text, Cursor { at, place });
+        return word(book, text, Cursor { at, place });
     }
     if classes::is_numeric_digit(c) {
         return Found::Part(
@@ -273,5 +272,5 @@ pub fn find(words: &[u8], book: &[u8], text: &[u8], from: Cursor) -> Found
     if white::is_white(c) {
         return white(c, next);
     }
-    mark(words, text, at, place, c, width)
+    mark(text, at, place, c, width)
 }

@@ -1,7 +1,6 @@
 // Identifiers: the scan of the Rust's `parse_identifier_token`, from a cursor. The entry is `identifier_token`.
 ghost use mathlib.Core.Path.{_≡_};
 ghost use mathlib.Core.Bool.{true};
-ghost use Rattle.token.specs.Table.{table};
 ghost use Rattle.book.specs.Book.{good};
 ghost use Rattle.identifier.specs.Identifiers.{kindOf, listed, classOf, identifyOf};
 use chars::cursor::Cursor;
@@ -68,19 +67,19 @@ fn unlisted(book: &[u8], word: &[u8]) -> Class
 }
 
 // Keyword before reserved before validity.
-fn class_of(words: &[u8], book: &[u8], word: &[u8]) -> Class
-    requires { ⌜ (now words ≡ table) × (good (now book) ≡ true) ⌝ }
+fn class_of(book: &[u8], word: &[u8]) -> Class
+    requires { ⌜ good (now book) ≡ true ⌝ }
     ensures { λ r. ⌜ r ≡ classOf (now (book .entry)) (now (word .entry)) ⌝ }
 {
-    let Lookup::Some(token) = keywords::lookup_in(words, word) else {
+    let Lookup::Some(token) = keywords::lookup_symbol_from_syntax(word) else {
         return unlisted(book, word);
     };
     Class::Is(kind_of(word), token)
 }
 
-// Inner: the identifier at a cursor, for a run, which has checked its text and its book and holds the words.
-pub fn identify(words: &[u8], book: &[u8], text: &[u8], start: Cursor) -> Identified
-    requires { ⌜ (now words ≡ table) × (good (now book) ≡ true) ⌝ }
+// Inner: the identifier at a cursor, for a run, which has checked its text and its book.
+pub fn identify(book: &[u8], text: &[u8], start: Cursor) -> Identified
+    requires { ⌜ good (now book) ≡ true ⌝ }
     ensures { λ r. ⌜ r ≡ identifyOf (now (text .entry)) (now (book .entry)) start ⌝ }
 {
     let place = start.place;
@@ -97,7 +96,7 @@ pub fn identify(words: &[u8], book: &[u8], text: &[u8], start: Cursor) -> Identi
     let end = stretch::end_of(Stretch::Word, text, first);
     let at = start.at;
     let to = end.at;
-    let Class::Is(kind, token) = class_of(words, book, &text[at..to]) else {
+    let Class::Is(kind, token) = class_of(book, &text[at..to]) else {
         return Identified::Refused(
             Fault {
                 number: Fault::MALFORMED_IDENTIFIER,

@@ -30,8 +30,7 @@ pub fn parse_identifier_token(text: &[u8], at: usize, place: Position, book: &[u
 {
     let number = argument(text, at, place, book);
     if number == 0 {
-        let words = token::words();
-        return identifier::identify(&words, book, text, Cursor { at, place });
+        return identifier::identify(book, text, Cursor { at, place });
     }
     Identified::Refused(
         Fault {

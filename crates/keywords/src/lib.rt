@@ -2,7 +2,6 @@
 ghost use mathlib.Core.Path.{_≡_};
 ghost use Prim.Native.Nat.{_≤_};
 ghost use lib.ListN.{length};
-ghost use Rattle.token.specs.Table.{table};
 ghost use Rattle.word_table.specs.Spelt.{numberOf};
 ghost use Rattle.keywords.specs.Lookup.{lookupOf};
 use token::Lookup;
@@ -48,12 +47,4 @@ pub fn lookup_symbol_from_syntax(text: &[u8]) -> Lookup
         token = word_table::next_of(token);
     }
     Lookup::None
-}
-
-// Inner: the same, for callers that hold a table of the words.
-pub fn lookup_in(words: &[u8], text: &[u8]) -> Lookup
-    requires { ⌜ now words ≡ table ⌝ }
-    ensures { λ r. ⌜ r ≡ lookupOf (now (text .entry)) ⌝ }
-{
-    lookup_symbol_from_syntax(text)
 }

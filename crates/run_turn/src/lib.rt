@@ -8,7 +8,6 @@ ghost use lib.Seq.{sets};
 ghost use Rattle.fault.specs.Faults.{fault};
 ghost use Rattle.utf8.specs.Table.{chars};
 ghost use Rattle.white.specs.White.{isWhite};
-ghost use Rattle.token.specs.Table.{table};
 ghost use Rattle.book.specs.Book.{good};
 ghost use Rattle.literal.specs.Trace.{bytes};
 ghost use Rattle.literal.specs.Cut.{cut};
@@ -350,11 +349,10 @@ fn end(here: Cursor, level: usize, used: usize) -> Turned
     stop(here, used, Fault::STILL_OPEN, place)
 }
 
-// Inner: one turn, for a run, which has checked its script and its book and holds the words. A text that is due goes on from its
+// Inner: one turn, for a run, which has checked its script and its book. A text that is due goes on from its
 // `}`; else what begins behind the white space. It takes of the run's state what it needs, and answers what it has passed, so that
 // the open braces are touched only where they are counted.
 pub fn turn(
-    words: &[u8],
     book: &[u8],
     text: &[u8],
     cursor: Cursor,
@@ -365,7 +363,7 @@ pub fn turn(
     used: usize,
     literals: &mut [u8],
 ) -> Turned
-    requires { ⌜ (now words ≡ table) × (good (now book) ≡ true) × (cursor .at ≤ length (now text)) × (used ≤ length (now literals)) ⌝ }
+    requires { ⌜ (good (now book) ≡ true) × (cursor .at ≤ length (now text)) × (used ≤ length (now literals)) ⌝ }
     ensures { λ r. ⌜ Standing cursor level due (λ s. Leads (skipped (now (text .entry)) s) r (turnOf (within limit (length (now (literals .entry)))) free used (skipped (now (text .entry)) s) (stepOf (now (text .entry)) (now (book .entry)) (skipped (now (text .entry)) s)))) ⌝ }
     ensures { λ r. ⌜ Standing cursor level due (λ s. now (literals .exit) ≡ keptOf (within limit (length (now (literals .entry)))) free used (stepOf (now (text .entry)) (now (book .entry)) (skipped (now (text .entry)) s)) (now (literals .entry))) ⌝ }
 {
@@ -382,7 +380,7 @@ pub fn turn(
         );
     }
     let here = find::skip(text, cursor);
-    let found = find::find(words, book, text, here);
+    let found = find::find(book, text, here);
     match found {
         Found::White(to) => Turned {
             piece: false,

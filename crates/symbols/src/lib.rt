@@ -2,7 +2,6 @@
 ghost use mathlib.Core.Path.{_≡_};
 ghost use lib.ListN.{getD};
 ghost use Rattle.classes.specs.Class.{isIdContinue};
-ghost use Rattle.token.specs.Table.{table};
 ghost use Rattle.symbols.specs.Symbols.{longestOf, longestSymbolOf};
 ghost use Rattle.symbols.specs.Begun.{
   followedOf,
@@ -207,14 +206,6 @@ pub fn longest_of(text: &[u8]) -> Longest
         b'#' => hash(text),
         _ => Longest::Nothing,
     }
-}
-
-// Inner: the same, for callers that hold a table of the words.
-pub fn longest_in(words: &[u8], text: &[u8]) -> Longest
-    requires { ⌜ now words ≡ table ⌝ }
-    ensures { λ r. ⌜ r ≡ longestOf (now (text .entry)) ⌝ }
-{
-    longest_of(text)
 }
 
 // The longest listed symbol at an offset, `!in` only if no identifier goes on there.

@@ -19,7 +19,7 @@ module _ (k : tie.After-known-told) where
   call = k .before .before .before
 
   abbrev begin : tie.Start
-  begin = call .before .before .before .before .before
+  begin = call .before .before .before .before
 
   abbrev width : ℕ
   width = k .before .c .given .0 .1 .0

@@ -14,7 +14,7 @@ slash-spec =
     (λ c κs. search needs)
     (λ c κs. search needs)
     (λ c. rw (c .end-of .ensures .0, c .before .before .advanced .ensures) (sym (slash-line _ _ _ _ (c .before .if1 .taken))))
-    (λ c κs. omega (arith, code-within _ _ 0x2A (sym (c .before .before .before .before .before .pre .2) ∙ c .if2 .taken) (omega arith)))
+    (λ c κs. omega (arith, code-within _ _ 0x2A (sym (c .before .before .before .before .pre .1) ∙ c .if2 .taken) (omega arith)))
     (λ c. c .block .ensures ∙ rw (c .before .before .before .advanced .ensures) (sym (slash-block _ _ _ _ (c .before .if2 .taken))))
     (λ c κs. search needs)
     (λ c. c .symbol .ensures ∙ sym (slash-symbol _ _ _ _ (c .before .before .if1 .left) (c .before .if2 .left))))

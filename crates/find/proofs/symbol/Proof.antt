@@ -15,14 +15,14 @@ use Rattle.find.proofs.symbol.Tie as tie
 
 -- the symbol that was found
 module _ (k : tie.After-known-told) where
-  abbrev call : tie.After-longest-in
+  abbrev call : tie.After-longest-of
   call = k .before .before .before
 
   abbrev begin : tie.Start
-  begin = call .before .before .before .before
+  begin = call .before .before .before
 
   found : longestSymbolOf (begin .args .text .now) (begin .args .at) ≡ Symbol (k .before .token .given .0 .0) (k .before .token .given .0 .1 .0)
-  found = sym (from-offset _ _ _ (call .longest-in .ensures)) ∙ k .before .token .given .1
+  found = sym (from-offset _ _ _ (call .longest-of .ensures)) ∙ k .before .token .given .1
 
   room : (0 < k .before .token .given .0 .1 .0) × (begin .args .at + k .before .token .given .0 .1 .0 ≤ length (begin .args .text .now))
   room = offset-within _ _ _ _ found
@@ -37,7 +37,7 @@ symbol-spec =
     (λ c κs. search needs)
     (λ c. search needs)
     (λ c. search needs)
-    (λ c. sym (no-symbol _ _ _ (sym (from-offset _ _ _ (c .before .before .longest-in .ensures)) ∙ c .enum-told .given .1)))
+    (λ c. sym (no-symbol _ _ _ (sym (from-offset _ _ _ (c .before .before .longest-of .ensures)) ∙ c .enum-told .given .1)))
     (λ c. omega (arith, room c))
     (λ c κs. search needs)
     (λ c. omega (arith, room (c .before)))

@@ -9,12 +9,12 @@ use Rattle.identifier.proofs.class_of.Tie as tie
 returns : tie.Need-returns
 returns c =
     let told = c .before in
-    c .unlisted .ensures ∙ sym (class-unlisted _ _ (sym (told .before .before .lookup-in .ensures) ∙ told .enum-told .given .1))
+    c .unlisted .ensures ∙ sym (class-unlisted _ _ (sym (told .before .before .lookup-symbol-from-syntax .ensures) ∙ told .enum-told .given .1))
 
 returns-2 : tie.Need-returns-2
 returns-2 c =
     let told = c .before .before in
-    rw (c .kind-of .ensures) (sym (class-listed _ _ (sym (told .before .before .lookup-in .ensures) ∙ told .token .given .1)))
+    rw (c .kind-of .ensures) (sym (class-listed _ _ (sym (told .before .before .lookup-symbol-from-syntax .ensures) ∙ told .token .given .1)))
 
 pub class-of-spec : {M : Type 1} → statement M
 class-of-spec =

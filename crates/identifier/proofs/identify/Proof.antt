@@ -20,7 +20,7 @@ module _ (k : tie.After-end-of) where
   get = k .before .before .before .before
 
   abbrev begin : tie.Start
-  begin = get .before .before .before .before .before
+  begin = get .before .before .before .before
 
   abbrev text : List ℕ
   text = begin .args .text .now

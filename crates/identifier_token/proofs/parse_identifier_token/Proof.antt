@@ -6,13 +6,11 @@ use Rattle.identifier_token.proofs.parse_identifier_token.Statement.{st
 use Rattle.identifier_token.proofs.parse_identifier_token.Tie as tie
 
 identify-requires : tie.Need-identify-requires
-identify-requires c κs =
-    let test = c .before .before in
-    (c .before .words .ensures, good-book _ _ _ _ (sym (test .before .argument .ensures) ∙ test .if1 .taken))
+identify-requires c κs = good-book _ _ _ _ (sym (c .before .argument .ensures) ∙ c .if1 .taken)
 
 returns : tie.Need-returns
 returns c =
-    let test = c .before .before .before in
+    let test = c .before in
     c .identify .ensures ∙ sym (let-in _ _ _ _ (sym (test .before .argument .ensures) ∙ test .if1 .taken))
 
 returns-2 : tie.Need-returns-2
@@ -23,8 +21,6 @@ parse-identifier-token-spec =
     tie.close
     (tie.spec
     (λ c κs. search needs)
-    (λ c κs. search needs)
-    (λ c. search needs)
     identify-requires
     returns
     returns-2)

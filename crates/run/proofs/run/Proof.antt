@@ -12,15 +12,14 @@ use Rattle.run.proofs.run.Tie as tie
 
 tokens-requires : tie.Need-tokens-requires
 tokens-requires c κs =
-    let words = c .before .before .before in
-    let test = words .before in
+    let test = c .before .before in
     let who = admitted _ _ (sym (test .before .refuses .ensures) ∙ test .if1 .taken) in
-    (words .words .ensures, who .fair, who .short)
+    (who .fair, who .short)
 
 returns : tie.Need-returns
 returns c =
     let call = c .before .before .before .before in
-    let test = call .before .before .before .before .before in
+    let test = call .before .before .before in
     let start = test .before .before .before .before .before .before in
     let read = run-read _ _ _ (sym (test .before .refuses .ensures) ∙ test .if1 .taken) in (
       call .tokens .ensures .0 ∙ ap ranOf (sym read),
@@ -46,8 +45,6 @@ run-spec =
     tie.close
     (tie.spec
     (λ c κs. search needs)
-    (λ c κs. search needs)
-    (λ c. search needs)
     tokens-requires
     (λ c. search needs)
     (λ c. search needs)

@@ -27,7 +27,7 @@ started k braces = state (k .args .cursor) (k .args .level) braces (k .args .due
 -- what was found
 module _ (k : tie.After-find) where
   abbrev begin : tie.Start
-  begin = k .before .before .before .before .before .before .before
+  begin = k .before .before .before .before .before .before
 
   abbrev text : List ℕ
   text = begin .args .text .now
@@ -57,11 +57,11 @@ module _ (k : tie.After-find) where
     stepped q = step-found text book s refl (is-found ∙ q)
 
 due-requires : tie.Need-literal-requires
-due-requires c κs = let k = c .before .before .before .before .before .before in (k .pre .2, k .pre .3)
+due-requires c κs = let k = c .before .before .before .before .before in (k .pre .1, k .pre .2)
 
 due-returns : tie.Need-returns
 due-returns c =
-    let k = c .before .before .before .before .before .before .before .before .before in
+    let k = c .before .before .before .before .before .before .before .before in
     let y = c .before .before .before .before .if1 .taken in
     let told = c .before .before .literal .ensures in (
       λ braces. rw (skipped-due _ (started k braces) y, step-due _ (k .args .book .now) (started k braces) y) (told .0 (k .args .cursor) braces (k .args .due)),
@@ -74,7 +74,7 @@ part-requires c κs = let f = further (c .before .before .before) (c .before .fo
 literal-requires : tie.Need-literal-requires-2
 literal-requires c κs =
     let k = c .before .before .before .before in
-    (further k (c .before .before .found3 .given .1) .1, begin k .pre .3)
+    (further k (c .before .before .found3 .given .1) .1, begin k .pre .2)
 
 white-returns : tie.Need-returns-2
 white-returns c =
