@@ -33,6 +33,11 @@ module _ {t : List ℕ} {of : ℕ → Type 0} {a : ℕ} where
   pub one-more : {k j b c w : ℕ} → Stretch t of a k b → lookAt t b ≡ Char c w → of c → j ≡ k + 1 → Stretch t of a j (b + w)
   one-more p e y q = rw q (more p e y)
 
+  -- a stretch and then one of another class, whose characters are all of this one
+  pub then-more : {on : ℕ → Type 0} → ((c : ℕ) → on c → of c) → {k b j i e : ℕ} → Stretch t of a k b → Stretch t on b j e → i ≡ k + j → Stretch t of a i e
+  then-more f {k} {b} {j} {i} p none q = let z : i ≡ k = omega arith in rw z p
+  then-more f {k} {b} {j} {i} p (more s e y) q = one-more (then-more f p s refl) e (f _ y) (omega arith)
+
   -- of one character at least
   pub stretch-within : {k b : ℕ} → Stretch t of a k b → a < b → b ≤ length t
   stretch-within none h = absurd (omega arith)

@@ -2,6 +2,8 @@
 ghost use mathlib.Core.Path.{_≡_};
 ghost use Prim.Native.Nat.{_+_, _≤_, _<_};
 ghost use lib.ListN.{length, getD};
+ghost use Rattle.utf8.specs.Table.{lookAt};
+ghost use Rattle.utf8.specs.declared.Look.the-variants.{End};
 ghost use Rattle.chars.specs.Stretch.{Stretch, Next, among, Low, High, Other};
 
 // The offset behind what was passed, and how many characters that is.
@@ -46,12 +48,38 @@ fn last(len: usize, from: usize, most: usize) -> usize
 fn width(text: &[u8], at: usize, x: u32, stop: usize) -> usize
     requires { ⌜ (at < length (now text)) × (x ≡ getD (now text) at 0) × (0x80 ≤ x) × (at ≤ stop) ⌝ }
     ensures { λ r. ⌜ ((r ≡ 0 → ⊥) → Next (now (text .entry)) High at stop r) ⌝ }
+    ensures { λ r. ⌜ (r ≡ 0 → stop ≡ length (now (text .entry)) → lookAt (now (text .entry)) at ≡ End) ⌝ }
 {
     let w = utf8::width(text, at, x);
     if stop - at < w {
         return 0;
     }
     w
+}
+
+// Inner: passes the characters above 7F that begin at an offset, up to `stop`; if there is none, and `stop` is the end of the text, then
+// no character begins there. It has two callers, so that the compiler keeps it apart and the loops of ASCII small.
+pub fn high(text: &[u8], from: usize, stop: usize) -> Passed
+    requires { ⌜ (from < stop) × (stop ≤ length (now text)) × (0x80 ≤ getD (now text) from 0) ⌝ }
+    ensures { λ r. ⌜ Stretch (now (text .entry)) High from (r .count) (r .at) ⌝ }
+    ensures { λ r. ⌜ r .at ≤ stop ⌝ }
+    ensures { λ r. ⌜ (r .count ≡ 0 → stop ≡ length (now (text .entry)) → lookAt (now (text .entry)) from ≡ End) ⌝ }
+{
+    let mut at = from;
+    let mut count = 0;
+    while at < stop {
+        let x = text[at] as u32;
+        if x <= 0x7F {
+            return Passed { at, count };
+        }
+        let w = width(text, at, x, stop);
+        if w == 0 {
+            return Passed { at, count };
+        }
+        at += w;
+        count += 1;
+    }
+    Passed { at, count }
 }
 
 // Passes the characters that are none of five, in `most` bytes at the most. The five are ASCII, so a longer character is none of them.
@@ -74,15 +102,15 @@ pub fn pass(text: &[u8], from: usize, most: usize, a: u32, b: u32, d: u32, e: u3
             }
             at += 1;
         } else {
-            let w = width(text, at, x, stop);
-            if w == 0 {
+            let run = high(text, at, stop);
+            if run.count == 0 {
                 return Passed {
                     at,
                     count: at - from - extra,
                 };
             }
-            at += w;
-            extra += w - 1;
+            extra += run.at - at - run.count;
+            at = run.at;
         }
     }
     Passed {

@@ -54,12 +54,12 @@ fn line(text: &[u8], from: usize) -> Passed
             at += 1;
             count += 1;
         } else {
-            let w = utf8::width(text, at, x);
-            if w == 0 {
+            let run = chars::passing::high(text, at, text.len());
+            if run.count == 0 {
                 return Passed { at, count };
             }
-            at += w;
-            count += 1;
+            count += run.count;
+            at = run.at;
         }
     }
     Passed { at, count }

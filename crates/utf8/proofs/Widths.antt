@@ -17,7 +17,7 @@ use Rattle.utf8.specs.Widths.{widthOf, fits, rowWidth}
 use Rattle.utf8.specs.declared.Look.{Look}
 use Rattle.utf8.specs.declared.Look.the-variants.{Char, End}
 use Rattle.utf8.proofs.Encodes.{enc1}
-use Rattle.utf8.proofs.Ranges.{within-high}
+use Rattle.utf8.proofs.Ranges.{within-high, is-within}
 use Rattle.utf8.proofs.Decodes.{look-reads}
 use Rattle.utf8.proofs.Bits.{look-here}
 use Rattle.utf8.proofs.Laws.{at-width}
@@ -116,6 +116,16 @@ fits-bits (x ∷ bs) b e h = by (within (0x80 ‥ 0xBF) x) e
     by : (t : Bool) → b ≡ pick t (x - 0x80) 64 → both t true ≡ true
     by true q = refl
     by false q = absurd (omega arith)
+
+-- from 90 on they are sixteen or more
+pub fits-bits-from : (bs : List ℕ) (b : ℕ) → b ≡ bitsOf bs → 16 ≤ b → b < 64 → fits (0x90 ‥ 0xBF ∷ []) bs ≡ true
+unfolding fits
+fits-bits-from [] b e l h = absurd (omega arith)
+fits-bits-from (x ∷ bs) b e l h = by (within (0x80 ‥ 0xBF) x) refl e
+  where
+    by : (t : Bool) → within (0x80 ‥ 0xBF) x ≡ t → b ≡ pick t (x - 0x80) 64 → both (within (0x90 ‥ 0xBF) x) true ≡ true
+    by true p q = rw (is-within (0x90 ‥ 0xBF) x (omega arith) (within-high (0x80 ‥ 0xBF) x p))
+    by false p q = absurd (omega arith)
 
 pub fits-no-bits : (bs : List ℕ) (b : ℕ) → b ≡ bitsOf bs → 63 < b → fits (0x80 ‥ 0xBF ∷ []) bs ≡ false
 unfolding fits

@@ -1,4 +1,5 @@
 // UTF-8: the character at an offset of a text lent as bytes, and which numbers are characters. With `formed` and `encoder`, the leaf that alone knows about bytes.
+ghost use mathlib.Core.Bool.{true};
 ghost use mathlib.Core.Path.{_≡_};
 ghost use mathlib.Core.List.{_∷_};
 ghost use Prim.Native.Nat.{_+_, _≤_, _<_};
@@ -81,7 +82,51 @@ fn longer(text: &[u8], at: usize, a: u32) -> Look
     Look::End
 }
 
-// Inner: the width of the character at an offset whose byte, a, is above 7F; 0 where none begins. Two bytes are seen at once.
+// Whether a character of three bytes whose first, a, is E1..EC stands at an offset: Table 3-7's row with the most letters.
+fn is_three(text: &[u8], at: usize, a: u32) -> bool
+    requires { ⌜ at < length (now text) ⌝ }
+    ensures { λ r. ⌜ (r ≡ true → widthOf (look (a ∷ drop (at + 1) (now (text .entry)))) ≡ 3) ⌝ }
+{
+    if a < 0xE1 {
+        return false;
+    }
+    if 0xEC < a {
+        return false;
+    }
+    if 63 < bits_at(text, at + 1) {
+        return false;
+    }
+    if 63 < bits_at(text, at + 2) {
+        return false;
+    }
+    true
+}
+
+// Whether a character of four bytes whose first, a, is F0 stands at an offset: the row of the emoji.
+fn is_four(text: &[u8], at: usize, a: u32) -> bool
+    requires { ⌜ at < length (now text) ⌝ }
+    ensures { λ r. ⌜ (r ≡ true → widthOf (look (a ∷ drop (at + 1) (now (text .entry)))) ≡ 4) ⌝ }
+{
+    if a != 0xF0 {
+        return false;
+    }
+    let b = bits_at(text, at + 1);
+    if b < 16 {
+        return false;
+    }
+    if 63 < b {
+        return false;
+    }
+    if 63 < bits_at(text, at + 2) {
+        return false;
+    }
+    if 63 < bits_at(text, at + 3) {
+        return false;
+    }
+    true
+}
+
+// Inner: the width of the character at an offset whose byte, a, is above 7F; 0 where none begins. The common rows are seen at once.
 pub fn width(text: &[u8], at: usize, a: u32) -> usize
     requires { ⌜ (at < length (now text)) × (0x80 ≤ a) ⌝ }
     ensures { λ r. ⌜ r ≡ widthOf (look (a ∷ drop (at + 1) (now (text .entry)))) ⌝ }
@@ -94,6 +139,12 @@ pub fn width(text: &[u8], at: usize, a: u32) -> usize
             return 0;
         }
         return 2;
+    }
+    if is_three(text, at, a) {
+        return 3;
+    }
+    if is_four(text, at, a) {
+        return 4;
     }
     let Look::Char(_, w) = longer(text, at, a) else {
         return 0;

@@ -5,13 +5,10 @@ use mathlib.Core.List.{List}
 use mathlib.Core.Path.{_≡_, refl, sym}
 use lib.ListN.{length}
 use borrow.Author.Needs.{needs}
-use Rattle.utf8.specs.Table.{lookAt}
-use Rattle.utf8.specs.declared.Look.the-variants.{Char}
 use Rattle.utf8.proofs.Bits.{look-ascii}
-use Rattle.utf8.proofs.Laws.{at-width, look-past}
-use Rattle.utf8.proofs.Widths.{wide-char, wide-none, at-high}
-use Rattle.chars.specs.Stretch.{Stretch, none, more}
-use Rattle.chars.proofs.Stretches.{stretch-low}
+use Rattle.utf8.proofs.Laws.{look-past}
+use Rattle.chars.specs.Stretch.{Stretch, none, more, High}
+use Rattle.chars.proofs.Stretches.{stretch-low, then-more}
 use Rattle.stretch.specs.Passing.{Goes}
 use Rattle.stretch.specs.declared.Stretch.the-variants.{Line}
 use Rattle.stretch.proofs.Ends.{ends-there, stops-there, line-goes, line-stops}
@@ -24,20 +21,19 @@ Inv-loop text from at₀ count₀ at count = Stretch text (Goes Line) from count
 abbrev μ-loop : tie.MeasureT-loop
 μ-loop text from at₀ count₀ at count = length text - at
 
--- where the width of a longer character is known
-module _ (k : tie.After-width Inv-loop μ-loop) where
+-- where longer characters are passed
+module _ (k : tie.After-high Inv-loop μ-loop) where
   abbrev top : tie.At-loop Inv-loop μ-loop
   top = k .before .before .before .before
 
   abbrev text : List ℕ
   text = top .before .before .args .text .now
 
-  module _ (n : k .width .result ≡ 0 → ⊥) where
-    found : (c : ℕ) × (lookAt text (top .loop .at) ≡ Char c (k .width .result))
-    found = wide-char text (top .loop .at) (k .before .before .before .loop-test .taken) (k .width .ensures) n
+  run : Stretch text High (top .loop .at) (k .high .result .count) (k .high .result .at)
+  run = k .high .ensures .0
 
-    room : (1 ≤ k .width .result) × (top .loop .at + k .width .result ≤ length text) × (k .width .result ≤ 4)
-    room = at-width text (top .loop .at) (found .1)
+  ends : k .high .result .at ≤ length text
+  ends = k .high .ensures .1 .0
 
 -- an ASCII byte: the end of the line, or one character more
 returns : tie.Need-returns Inv-loop μ-loop
@@ -50,17 +46,16 @@ loop-again c =
     let test = c .before .before .before in
     more (test .before .loop .inv) (sym (look-ascii _ _ (test .loop-test .taken) 1 (c .before .if1 .taken) refl)) (line-goes _ (c .if2 .left))
 
--- no character, or a longer one
+-- no character, or longer ones
 returns-2 : tie.Need-returns-2 Inv-loop μ-loop
 returns-2 c =
-    let k = c .before in
-    ends-there Line _ (top k .loop .inv) (wide-none _ _ (k .before .before .before .loop-test .taken) (k .width .ensures) (c .if3 .taken))
+    let k = c .before .before in
+    ends-there Line _ (top k .loop .inv) (k .high .ensures .1 .1 (c .if3 .taken) refl)
 
 loop-again-2 : tie.Need-loop-again-2 Inv-loop μ-loop
 loop-again-2 c =
-    let k = c .before in
-    let f = found k (c .if3 .left) in
-    more (top k .loop .inv) (f .1) (line-goes _ (λ q. let h = at-high _ _ (k .before .if1 .left) (f .1) in omega (arith, h, q)))
+    let k = c .before .before .before in
+    then-more (λ x h. line-goes x (λ q. omega (arith, h, q))) (top k .loop .inv) (run k) refl
 
 pub line-spec : {M : Type 1} → statement M
 line-spec =
@@ -76,10 +71,9 @@ line-spec =
     (λ c. let test = c .before .before .before in omega (arith, test .loop-test .taken, stretch-low (test .before .loop .inv)))
     (λ c. omega (arith, c .before .before .before .loop-test .taken))
     loop-again
-    (λ c κs. search needs)
+    (λ c κs. (c .before .before .loop-test .taken, omega arith, c .if1 .left))
     returns-2
-    (λ c. omega (arith, room (c .before) (c .if3 .left)))
-    (λ c. let k = c .before in omega (arith, room k (c .if3 .left), stretch-low (top k .loop .inv)))
-    (λ c. omega (arith, room (c .before) (c .if3 .left)))
+    (λ c. let k = c .before .before .before in omega (arith, ends k, stretch-low (run k), stretch-low (top k .loop .inv)))
+    (λ c. let k = c .before .before .before in omega (arith, ends k, stretch-low (run k), c .before .if3 .left))
     loop-again-2
     (λ c. ends-there Line _ (c .before .loop .inv) (look-past _ _ (c .loop-test .left))))

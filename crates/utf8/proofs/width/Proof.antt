@@ -1,4 +1,4 @@
--- A first byte of two bytes is told by its row, any other by the character that `longer` reads.
+-- The common rows tell the width, and else the character that `longer` reads.
 use native.Mathlib.Omega.{arith}
 use mathlib.Core.Path.{sym, _∙_}
 use borrow.Author.Needs.{needs}
@@ -21,6 +21,10 @@ width-spec =
     (λ c κs. search needs)
     returns-2
     returns-3
+    (λ c κs. search needs)
+    (λ c. sym (c .before .is-three .ensures (c .if4 .taken)))
+    (λ c κs. search needs)
+    (λ c. sym (c .before .is-four .ensures (c .if5 .taken)))
     (λ c κs. search needs)
     (λ c. search needs)
     (λ c. search needs)

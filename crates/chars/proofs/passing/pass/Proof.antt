@@ -8,9 +8,8 @@ use borrow.Author.Needs.{needs}
 use Rattle.utf8.specs.Table.{lookAt}
 use Rattle.utf8.specs.declared.Look.the-variants.{Char}
 use Rattle.utf8.proofs.Bits.{look-ascii}
-use Rattle.utf8.proofs.Laws.{at-width}
-use Rattle.chars.specs.Stretch.{Stretch, none, Next, High, Other}
-use Rattle.chars.proofs.Stretches.{one-more, no-more, high-other}
+use Rattle.chars.specs.Stretch.{Stretch, none, High, Other}
+use Rattle.chars.proofs.Stretches.{stretch-low, one-more, no-more, then-more, high-other}
 use Rattle.chars.proofs.passing.pass.Statement.{statement}
 use Rattle.chars.proofs.passing.pass.Tie as tie
 
@@ -42,17 +41,19 @@ module _ (k : tie.At-loop Inv-loop μ-loop) where
   gives : Stretch text (Other (begin .args .a) (begin .args .b) (begin .args .d) (begin .args .e) (begin .args .f)) (begin .args .from) (at - begin .args .from - k .loop .extra) at × (at ≤ begin .args .from + begin .args .most)
   gives = (k .loop .inv .0, omega (arith, k .loop .inv .2, k .before .last .ensures .1))
 
--- a character of more bytes
-module _ (w : tie.After-width Inv-loop μ-loop) where
+-- characters of more bytes
+module _ (w : tie.After-high Inv-loop μ-loop) where
   abbrev top : tie.At-loop Inv-loop μ-loop
   top = w .before .before .before .before
 
-  module _ (n : w .width .result ≡ 0 → ⊥) where
-    next : Next (text top) High (at top) (stop top) (w .width .result)
-    next = w .width .ensures n
+  run : Stretch (text top) High (at top) (w .high .result .count) (w .high .result .at)
+  run = w .high .ensures .0
 
-    some : 1 ≤ w .width .result
-    some = at-width (text top) (at top) (next .found) .0
+  some : at top + w .high .result .count ≤ w .high .result .at
+  some = stretch-low run
+
+  ends : w .high .result .at ≤ stop top
+  ends = w .high .ensures .1 .0
 
 loop-again : tie.Need-loop-again Inv-loop μ-loop
 loop-again c =
@@ -68,11 +69,10 @@ loop-again c =
 
 loop-again-2 : tie.Need-loop-again-2 Inv-loop μ-loop
 loop-again-2 c =
-    let w = c .before in
+    let w = c .before .before .before .before in
     let i = top w .loop .inv in
-    let x = next w (c .if3 .left) in
-    let s = some w (c .if3 .left) in
-    (one-more (i .0) (x .found) (high-other _ _ _ _ _ _ (begin (top w) .pre) (x .is)) (omega (arith, i .1, s)), omega (arith, i .1, s), x .fits)
+    let s = some w in
+    (then-more (λ x h. high-other _ _ _ _ _ x (begin (top w) .pre) h) (i .0) (run w) (omega (arith, i .1, s)), omega (arith, i .1, s), ends w)
 
 pub pass-spec : {M : Type 1} → statement M
 pass-spec =
@@ -91,14 +91,14 @@ pass-spec =
     (λ c. let k = c .before .before .before .before .before in omega (arith, inside k (c .before .before .before .before .loop-test .taken)))
     (λ c. omega (arith, c .before .before .before .before .loop-test .taken))
     loop-again
-    (λ c κs. let test = c .before .before in (inside (test .before) (test .loop-test .taken), refl, c .if1 .left, test .before .loop .inv .2))
-    (λ c. omega (arith, top (c .before) .loop .inv .1))
-    (λ c. omega (arith, top (c .before) .loop .inv .1))
-    (λ c. gives (top (c .before)))
-    (λ c. let k = c .before in omega (arith, at-width (text (top k)) (at (top k)) (next k (c .if3 .left) .found)))
-    (λ c. some (c .before) (c .if3 .left))
-    (λ c. let k = c .before in omega (arith, at-width (text (top k)) (at (top k)) (next k (c .if3 .left) .found), top k .loop .inv .1))
-    (λ c. let k = c .before in omega (arith, some k (c .if3 .left), next k (c .if3 .left) .fits))
+    (λ c κs. let k = c .before .before .before in let h = c .before .before .loop-test .taken in (h, omega (arith, k .before .last .ensures .2 (omega (arith, h, k .loop .inv))), c .if1 .left))
+    (λ c. omega (arith, top (c .before .before) .loop .inv .1))
+    (λ c. omega (arith, top (c .before .before) .loop .inv .1))
+    (λ c. gives (top (c .before .before)))
+    (λ c. omega (arith, some (c .before .before .before)))
+    (λ c. omega (arith, some (c .before .before .before .before)))
+    (λ c. let w = c .before .before .before .before in omega (arith, some w, top w .loop .inv .1, ends w))
+    (λ c. let w = c .before .before .before .before in omega (arith, some w, ends w, c .before .before .if3 .left))
     loop-again-2
     (λ c. omega (arith, c .before .loop .inv .1))
     (λ c. omega (arith, c .before .loop .inv .1))
