@@ -4,6 +4,7 @@ use native.Mathlib.Omega.{arith}
 use mathlib.Core.Bool.{Bool, true, false}
 use mathlib.Core.List.{List}
 use mathlib.Core.Path.{_≡_, refl, sym, ap, _∙_}
+use lib.Dec.{eqb}
 use borrow.Author.Tests.{le-ltb}
 use Rattle.basis.specs.Pick.{pick, both}
 use Rattle.basis.proofs.Cases.{both-no}
@@ -12,23 +13,24 @@ use Rattle.position.specs.Place.{orElse, advanced, advancedBy}
 use Rattle.position.proofs.Moves.{firstBy, advanced-by-none, advanced-by-more, first-by-none, first-by-more, first-by-some}
 use Rattle.utf8.specs.Table.{lookAt}
 use Rattle.utf8.specs.Encode.{encoded}
-use Rattle.utf8.specs.declared.Look.the-variants.{Char}
-use Rattle.chars.specs.Cursors.{cursor}
+use Rattle.utf8.specs.declared.Look.{Look}
+use Rattle.utf8.specs.declared.Look.the-variants.{Char, End}
+use Rattle.chars.specs.Cursors.{cursor, getNextOf}
 use Rattle.chars.specs.Scan.{runAt}
 use Rattle.chars.specs.declared.cursor.Cursor.{Cursor}
-use Rattle.chars.proofs.Cursors.{ate}
+use Rattle.chars.proofs.Cursors.{ate, got, got-none}
 use Rattle.chars.proofs.Stretches.{is-other}
 use Rattle.literal.specs.Trace.{Trace, adds, checks}
-use Rattle.string_take.specs.Kinds.{lf, cr, dollar, backslash, isInterpolated}
+use Rattle.string_take.specs.Kinds.{lf, cr, dollar, backslash, backtick, leftBrace, isVerbatim, isInterpolated}
 use Rattle.string_take.specs.Endings.{once}
-use Rattle.string_take.specs.Turns.{state, isEmpty, dollarOf, takeOf}
-use Rattle.string_take.specs.Passing.{Plain}
+use Rattle.string_take.specs.Turns.{state, isEmpty, nextIs, onTaken, dollarOf, takeOf}
+use Rattle.string_take.specs.Passing.{Plain, Settled, Added, feed, lone, sign, slash, placeBehind}
 use Rattle.string_take.specs.declared.Pending.{Pending}
 use Rattle.string_take.specs.declared.Pending.the-variants.{Empty}
 use Rattle.string_take.specs.declared.State.{State}
 use Rattle.string_take.specs.declared.Got.{Got}
 use Rattle.string_take.specs.declared.Got.the-variants as got
-use Rattle.string_act.specs.Turns.{columnOf, closeOf, addOf, plainOf, otherOf, matchOf, actOf}
+use Rattle.string_act.specs.Turns.{columnOf, closeOf, lineFeedOf, addOf, plainOf, otherOf, matchOf, actOf}
 use Rattle.string_act.specs.declared.Step.the-variants as step
 use Rattle.string_reading.specs.Ends.{tooLongAt}
 use Rattle.string_reading.specs.Scans.{rule}
@@ -39,8 +41,17 @@ either-way true x e = e
 either-way false x e = refl
 
 -- the state with no escape pending and nothing to skip
-pub settled : (s : State) → s .escape ≡ Empty → s .skip ≡ 0 → s ≡ state (s .place) (s .first) Empty 0
-settled s e z = ap (λ (x : Pending). state (s .place) (s .first) x (s .skip)) e ∙ ap (λ (m : ℕ). state (s .place) (s .first) Empty m) z
+pub settled : (s : State) → Settled s → s ≡ state (s .place) (s .first) Empty 0
+settled s z = ap (λ (x : Pending). state (s .place) (s .first) x (s .skip)) (z .empty) ∙ ap (λ (m : ℕ). state (s .place) (s .first) Empty m) (z .all)
+
+-- a backslash that no `$` follows is one
+no-sign : (t : List ℕ) (here : Cursor) (f : Cursor → Got) (g : Got) → nextIs t (here .at) dollar ≡ false → (x : Look) → lookAt t (here .at) ≡ x
+    → onTaken (getNextOf t here) (λ d next. pick (both (eqb d dollar) (nextIs t (next .at) leftBrace)) (f next) g) g ≡ g
+unfolding nextIs
+no-sign t here f g h (Char d w) e =
+    let k : eqb d dollar ≡ false = rw e at h in
+    rw (got t here e, k)
+no-sign t here f g h End e = rw (got-none t here e)
 
 module _ (white : ℕ → Bool) (t : List ℕ) (q : ℕ) (start : Position) where
   -- ---- one of them
@@ -68,6 +79,39 @@ module _ (white : ℕ → Bool) (t : List ℕ) (q : ℕ) (start : Position) wher
 
     one-plain : runAt (rule white t q start) t b here ≡ checks (tooLongAt start next (once q)) (adds (encoded c) (runAt (rule white t q start) t (b + w) then))
     one-plain = goes-on white t q start b here taken acted
+
+  -- ---- one that text only adds
+  module _ (p f : Position) (b : ℕ) where
+    abbrev before : State
+    before = state p f Empty 0
+
+    abbrev behind : Cursor
+    behind = cursor (b + 1) (advanced p)
+
+    abbrev at-last : ℕ → State
+    at-last c = state (placeBehind c p) (orElse f (advanced p)) Empty 0
+
+    signs : {c : ℕ} → Added t (b + 1) c → dollarOf t c behind f ≡ got.Char c behind
+    unfolding dollarOf
+    signs feed = refl
+    signs (lone h) = refl
+    signs (sign h) = rw h
+    signs (slash h) = no-sign t behind (λ next. got.Char dollar next) (got.Char backslash behind) h (lookAt t (b + 1)) refl
+
+    added-taken : {c : ℕ} → lookAt t b ≡ Char c 1 → Added t (b + 1) c → takeOf t backtick start b before ≡ got.Char c behind
+    unfolding takeOf isInterpolated isEmpty
+    added-taken e a = rw (ate t (cursor b p) e) (signs a)
+
+    added-acted : {c : ℕ} → Added t (b + 1) c → actOf white t backtick start c behind before ≡ step.Go c (b + 1) (at-last c)
+    unfolding actOf closeOf matchOf lineFeedOf otherOf plainOf addOf isVerbatim isEmpty placeBehind
+    added-acted feed = refl
+    added-acted (lone h) = rw (h, le-ltb (columnOf (advanced p)) 0 (omega arith), both-no)
+    added-acted (sign h) = rw (le-ltb (columnOf (advanced p)) 0 (omega arith), both-no)
+    added-acted (slash h) = rw (le-ltb (columnOf (advanced p)) 0 (omega arith), both-no)
+
+    pub one-added : {c : ℕ} → lookAt t b ≡ Char c 1 → q ≡ backtick → Added t (b + 1) c
+        → runAt (rule white t q start) t b before ≡ checks (tooLongAt start behind (once q)) (adds (encoded c) (runAt (rule white t q start) t (b + 1) (at-last c)))
+    one-added e h a = rw h (goes-on white t backtick start b before (added-taken e a) (added-acted a))
 
   -- ---- all of them
   module _ (p f : Position) where

@@ -4,12 +4,15 @@ use native.Mathlib.Omega.{arith}
 use native.Mathlib.Nat.{zero-add, suc-add}
 use mathlib.Core.Bool.{Bool, true, false}
 use mathlib.Core.List.{List, [], _∷_, _++_, append-assoc}
+use mathlib.Core.Logic.{⊎-elim}
 use mathlib.Core.Path.{_≡_, refl, sym, ap, _∙_}
 use lib.ListN.{length, take, drop, length-drop}
 use lib.Seq.{drop-drop, length-take-le}
 use Rattle.basis.specs.Pick.{pick}
+use Rattle.basis.proofs.Bounds.{split}
 use Rattle.basis.specs.Store.{fits, stored}
 use Rattle.position.specs.declared.Position.{Position}
+use Rattle.position.specs.Place.{orElse, advanced}
 use Rattle.utf8.specs.Table.{lookAt}
 use Rattle.utf8.specs.Encode.{encoded}
 use Rattle.utf8.specs.declared.Look.the-variants.{Char}
@@ -19,16 +22,18 @@ use Rattle.white.specs.White.{isWhite}
 use Rattle.chars.specs.Stretch.{Stretch}
 use Rattle.chars.specs.declared.cursor.Cursor.{Cursor}
 use Rattle.chars.proofs.Stretches as stretches
-use Rattle.chars.proofs.Stretches.{stretched, stretch-low, stretch-within}
+use Rattle.chars.proofs.Stretches.{stretched}
 use Rattle.literal.specs.Trace.{Trace, adds, checks, bytes}
 use Rattle.literal.specs.declared.Refusal.{Refusal}
+use Rattle.string_take.specs.Kinds.{backtick}
 use Rattle.string_take.specs.Turns.{state}
-use Rattle.string_take.specs.Passing.{Plain, Passes, none, some}
+use Rattle.string_take.specs.Passing.{Plain, Added, placeBehind, Passes, none, some, one, then}
 use Rattle.string_take.specs.declared.Pending.the-variants.{Empty}
 use Rattle.string_take.specs.declared.State.{State}
 use Rattle.string_take.specs.declared.Stood.{Stood}
+use Rattle.string_take.proofs.Passing.{passes-low, passes-within}
 use Rattle.string_reading.specs.Scans.{rule, rest}
-use Rattle.string_reading.proofs.Passing.{settled, one-after, after-none, after-some}
+use Rattle.string_reading.proofs.Passing.{settled, one-after, one-added, after-none, after-some}
 use Rattle.string_reading.proofs.Passing as passing
 use Rattle.string_scan.specs.Standing.{Written}
 use Rattle.string_scan.proofs.Writing.{written-on}
@@ -64,6 +69,13 @@ part-char t at b {c} {w} h e =
     let y : at + (b - at) ≡ b = omega arith in
     rw (z, take-more (b - at) w (drop at t), drop-drop (b - at) at t, y, look-scalar-bytes t b e, encoded-scalar c (code-scalar t b e))
 
+-- two parts are one
+part-on : (t : List ℕ) (at a b : ℕ) → at ≤ a → a ≤ b → part t at a ++ part t a b ≡ part t at b
+part-on t at a b h l =
+    let z : b - at ≡ a - at + (b - a) = omega arith in
+    let y : at + (a - at) ≡ a = omega arith in
+    rw (z, take-more (a - at) (b - a) (drop at t), drop-drop (a - at) at t, y)
+
 -- ---- the bytes of what was passed
 module _ (t : List ℕ) (q : ℕ) (start : Position) (at : ℕ) where
   abbrev view : ℕ → Trace → List ℕ
@@ -87,24 +99,33 @@ module _ (t : List ℕ) (q : ℕ) (start : Position) (at : ℕ) where
         ∙ ap (λ (s : State). view at (rest t q start at s)) (sym (after-none isWhite t q start p f))
         ∙ stretched (rule isWhite t q start) t after′ view (Plain q) at b (λ k b c w h l. one-passed k b c w h) x (omega arith)
 
-  module _ {most : ℕ} {s : State} where
-    pub passed-low : {r : Stood} → Passes t q most at s r → (at ≤ r .at) × (at < r .at → r .at ≤ length t)
-    passed-low none = (omega arith, λ h. absurd (omega arith))
-    passed-low (some e z x l y h) = (omega (arith, stretch-low x), λ g. stretch-within x g)
+    one-more : q ≡ backtick → {c : ℕ} → lookAt t at ≡ Char c 1 → Added t (at + 1) c
+        → bytes (rest t q start at (state p f Empty 0)) ≡ part t at (at + 1) ++ bytes (rest t q start (at + 1) (state (placeBehind c p) (orElse f (advanced p)) Empty 0))
+    one-more h {c} e a =
+        ap (λ (l : List ℕ). l ++ bytes (rest t q start at (state p f Empty 0))) (sym (part-none t at at (omega arith)))
+        ∙ ap (view at) (one-added isWhite t q start p f at e h a)
+        ∙ read at c _ _
+        ∙ ap (λ (l : List ℕ). l ++ bytes (rest t q start (at + 1) (state (placeBehind c p) (orElse f (advanced p)) Empty 0))) (part-char t at at (omega arith) e)
 
-    part-size : {r : Stood} → Passes t q most at s r → length (part t at (r .at)) ≡ r .at - at
-    part-size none = rw (part-none t at at (omega arith)) (omega arith)
-    part-size (some {k} {b} {r} e z x l y h) =
-        let g = stretch-low x in
-        let u = stretch-within x (omega arith) in
-        length-take-le (b - at) (drop at t) (omega (arith, length-drop at t))
+part-size : (t : List ℕ) (at to : ℕ) → (at < to → to ≤ length t) → length (part t at to) ≡ to - at
+part-size t at to h =
+    ⊎-elim (λ l. length-take-le (to - at) (drop at t) (omega (arith, length-drop at t, h l)))
+    (λ l. rw (part-none t at to l) (omega (arith, l)))
+    (split at to)
 
-    pub passed-bytes : {r : Stood} → Passes t q most at s r → bytes (rest t q start at s) ≡ part t at (r .at) ++ bytes (rest t q start (r .at) (r .state))
-    passed-bytes none = rw (part-none t at at (omega arith))
-    passed-bytes (some {k} {b} {r} e z x l y h) =
-        ap (λ (u : State). bytes (rest t q start at u)) (settled s e z) ∙ rw (h, ← after-some isWhite t q start (s .place) (s .first) k y) (all-passed (s .place) (s .first) x)
+module _ (t : List ℕ) (q : ℕ) (start : Position) where
+  pub passed-bytes : {at : ℕ} {s : State} {r : Stood} → Passes t q at s r → bytes (rest t q start at s) ≡ part t at (r .at) ++ bytes (rest t q start (r .at) (r .state))
+  passed-bytes {at} none = rw (part-none t at at (omega arith))
+  passed-bytes (some {at} {k} {b} {s} {r} z x y h) =
+      ap (λ (u : State). bytes (rest t q start at u)) (settled s z) ∙ rw (h, ← after-some isWhite t q start (s .place) (s .first) k y) (all-passed t q start at (s .place) (s .first) x)
+  passed-bytes (one {at} {c} {s} {r} z y e a h) = ap (λ (u : State). bytes (rest t q start at u)) (settled s z) ∙ rw h (one-more t q start at (s .place) (s .first) y e a)
+  passed-bytes (then {at} {s} {u} {r} x y) =
+      passed-bytes x
+      ∙ ap (λ (l : List ℕ). part t at (u .at) ++ l) (passed-bytes y)
+      ∙ sym (append-assoc (part t at (u .at)) (part t (u .at) (r .at)) (bytes (rest t q start (r .at) (r .state))))
+      ∙ ap (λ (l : List ℕ). l ++ bytes (rest t q start (r .at) (r .state))) (part-on t at (u .at) (r .at) (passes-low x) (passes-low y))
 
 -- ---- the loop
 module _ (t : List ℕ) (q : ℕ) (from : Cursor) (old out : List ℕ) (at : ℕ) (s : State) (n : ℕ) (i : Written t q from old out at s n) where
-  pub written-passed : {most : ℕ} {r : Stood} → Passes t q most at s r → {l : List ℕ} → l ≡ stored out n (part t at (r .at)) → Written t q from old l (r .at) (r .state) (n + (r .at - at))
-  written-passed {most} {r} x v = written-on t q from old out at s n i (part t at (r .at)) (passed-bytes t q (from .place) at x) (rw (part-size t q (from .place) at x)) v
+  pub written-passed : {r : Stood} → Passes t q at s r → {l : List ℕ} → l ≡ stored out n (part t at (r .at)) → Written t q from old l (r .at) (r .state) (n + (r .at - at))
+  written-passed {r} x v = written-on t q from old out at s n i (part t at (r .at)) (passed-bytes t q (from .place) x) (rw (part-size t at (r .at) (passes-within x))) v

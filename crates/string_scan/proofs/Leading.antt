@@ -7,11 +7,11 @@ use mathlib.Core.Path.{_≡_, refl, sym, ap, _∙_}
 use lib.ListN.{length, take, drop}
 use Rattle.basis.specs.Store.{stored}
 use Rattle.basis.proofs.Stores.{length-stored}
-use Rattle.position.specs.Place.{start}
 use Rattle.utf8.specs.Encode.{encoded}
 use Rattle.escape.specs.declared.Whole.{Whole}
 use Rattle.literal.specs.Trace.{passes}
-use Rattle.string_take.specs.Passing.{Passes, none, some}
+use Rattle.string_take.specs.Passing.{Passes}
+use Rattle.string_take.proofs.Passing.{passes-low}
 use Rattle.string_take.specs.declared.State.{State}
 use Rattle.string_take.specs.declared.Stood.{Stood}
 use Rattle.string_scan.specs.Standing.{Leads}
@@ -19,16 +19,9 @@ use Rattle.string_scan.specs.Units.{Unit-at, behindOf}
 use Rattle.string_scan.specs.declared.Stand.{Stand}
 use Rattle.string_scan.specs.declared.Turned.the-variants.{On}
 use Rattle.string_scan.proofs.Measuring.{measured-more}
-use Rattle.string_scan.proofs.Passing as passing
 use Rattle.string_scan.proofs.Passing.{measured-passed}
 use Rattle.string_scan.proofs.Writing.{written-more}
-use Rattle.string_scan.proofs.Copying as copying
 use Rattle.string_scan.proofs.Copying.{written-passed}
-
--- a stretch ends within its bytes
-passed-most : {t : List ℕ} {q most at : ℕ} {s : State} {r : Stood} → Passes t q most at s r → r .at ≤ at + most
-passed-most none = omega arith
-passed-most (some e z x l y h) = l
 
 abbrev pub stand : ℕ → State → ℕ → Stand
 stand at s n = record { at = at; state = s; n = n }
@@ -38,14 +31,14 @@ module _ (t : List ℕ) (q limit room : ℕ) (from : Stand) (old : List ℕ) whe
   stays h = record { measured = λ c i. i; written = λ c m i. i; low = omega arith; within = h; same = refl }
 
   module _ {at : ℕ} {s : State} {n : ℕ} {out : List ℕ} (i : Leads t q limit room from old (stand at s n) out) where
-    pub passes-on : {most : ℕ} → n + most ≤ room → (0 < most → passes limit (n + most) ≡ false) → {r : Stood} → Passes t q most at s r
+    pub passes-on : {most : ℕ} → n + most ≤ room → (0 < most → passes limit (n + most) ≡ false) → {r : Stood} → Passes t q at s r → r .at ≤ at + most
         → {l : List ℕ} → l ≡ stored out n (take (r .at - at) (drop at t)) → Leads t q limit room from old (stand (r .at) (r .state) (n + (r .at - at))) l
-    passes-on {most} g o {r} x v =
+    passes-on {most} g o {r} x h v =
         record {
-          measured = λ c m. measured-passed t c q limit room (i .measured c m) g o x;
+          measured = λ c m. measured-passed t c q limit room (i .measured c m) g o x h;
           written = λ c first w. written-passed t q c first out at s n (i .written c first w) x v;
-          low = omega (arith, i .low, copying.passed-low t q start at x .0);
-          within = omega (arith, g, copying.passed-low t q start at x .0, passed-most x);
+          low = omega (arith, i .low, passes-low x);
+          within = omega (arith, g, passes-low x, h);
           same = rw (v, length-stored out n (take (r .at - at) (drop at t))) (i .same);
         }
 

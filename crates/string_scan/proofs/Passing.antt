@@ -6,6 +6,7 @@ use mathlib.Core.List.{List}
 use mathlib.Core.Path.{_≡_, refl, sym, ap, _∙_}
 use lib.ListN.{length}
 use Rattle.position.specs.declared.Position.{Position}
+use Rattle.position.specs.Place.{orElse, advanced}
 use Rattle.utf8.specs.Table.{lookAt}
 use Rattle.utf8.specs.Encode.{encoded}
 use Rattle.utf8.specs.declared.Look.the-variants.{Char}
@@ -22,14 +23,16 @@ use Rattle.literal.specs.Cut.{cut}
 use Rattle.literal.specs.declared.Refusal.{Refusal}
 use Rattle.literal.specs.declared.Scanned.{Scanned}
 use Rattle.literal.proofs.Within.{tests-within}
+use Rattle.string_take.specs.Kinds.{backtick}
 use Rattle.string_take.specs.Turns.{state}
-use Rattle.string_take.specs.Passing.{Plain, Passes, none, some}
+use Rattle.string_take.specs.Passing.{Plain, Added, placeBehind, Passes, none, some, one, then}
 use Rattle.string_take.specs.declared.Pending.the-variants.{Empty}
 use Rattle.string_take.specs.declared.State.{State}
 use Rattle.string_take.specs.declared.Stood.{Stood}
+use Rattle.string_take.proofs.Passing.{passes-low}
 use Rattle.string_reading.specs.Ends.{fullAt}
 use Rattle.string_reading.specs.Scans.{rule, rest}
-use Rattle.string_reading.proofs.Passing.{settled, after, after-none, after-some, one-after}
+use Rattle.string_reading.proofs.Passing.{settled, after, after-none, after-some, one-after, one-added}
 use Rattle.string_scan.specs.Standing.{Measured}
 
 -- a character's bytes in the body are as many as in the text
@@ -54,20 +57,40 @@ module _ (t : List ℕ) (from : Cursor) (q limit room most at n : ℕ) (p f : Po
       ∙ ap (λ (s : State). view at (rest t q (from .place) at s)) (sym (after-none isWhite t q (from .place) p f))
       ∙ stretched (rule isWhite t q (from .place)) t (after isWhite t q (from .place) p f) view (Plain q) at (at + most) one-passed x l
 
-module _ (t : List ℕ) (from : Cursor) (q limit room : ℕ) {at : ℕ} {s : State} {n most : ℕ} (i : Measured t from q limit room at s n) (g : n + most ≤ room) (o : 0 < most → passes limit (n + most) ≡ false) where
-  pub passed-low : {r : Stood} → Passes t q most at s r → (at ≤ r .at) × (r .at ≤ at + most)
-  passed-low none = (omega arith, omega arith)
-  passed-low (some e z x l y h) = (omega (arith, stretch-low x), l)
+  one-more : q ≡ backtick → {c : ℕ} → lookAt t at ≡ Char c 1 → Added t (at + 1) c → at + 1 ≤ at + most
+      → cut full limit room n (rest t q (from .place) at (state p f Empty 0))
+      ≡ cut full limit room (n + (at + 1 - at)) (rest t q (from .place) (at + 1) (state (placeBehind c p) (orElse f (advanced p)) Empty 0))
+  one-more h {c} e a l =
+      let z : n ≡ n + (at - at) = omega arith in
+      let y : at + 1 - at ≡ at - at + 1 = omega arith in
+      ap (λ (m : ℕ). cut full limit room m (rest t q (from .place) at (state p f Empty 0))) z
+      ∙ ap (view at) (one-added isWhite t q (from .place) p f at e h a)
+      ∙ rw y (tests-within full limit room n most g o (at - at) 1 (omega arith) (omega arith) (encoded c) (same-size t at e) _ _)
 
-  pub measured-passed : {r : Stood} → Passes t q most at s r → Measured t from q limit room (r .at) (r .state) (n + (r .at - at))
-  measured-passed none =
+module _ (t : List ℕ) (from : Cursor) (q limit room : ℕ) where
+  -- what was passed is measured, where neither is in the way for so many bytes
+  pub measured-passed : {at : ℕ} {s : State} {n most : ℕ} {r : Stood} → Measured t from q limit room at s n → n + most ≤ room → (0 < most → passes limit (n + most) ≡ false)
+      → Passes t q at s r → r .at ≤ at + most → Measured t from q limit room (r .at) (r .state) (n + (r .at - at))
+  measured-passed {at} {s} {n} i g o none l =
       let z : n + (at - at) ≡ n = omega arith in
       rw z i
-  measured-passed (some {k} {b} {r} e z x l y h) =
-      let low = stretch-low x in
+  measured-passed {at} {s} {n} {most} i g o (some {k} {b} {r} z x y h) l =
       record {
-        within = omega (arith, g, l, low);
+        within = omega (arith, g, l, stretch-low x);
         is = i .is
-            ∙ ap (λ (u : State). cut (fullAt from) limit room n (rest t q (from .place) at u)) (settled s e z)
+            ∙ ap (λ (u : State). cut (fullAt from) limit room n (rest t q (from .place) at u)) (settled s z)
             ∙ rw (h, ← after-some isWhite t q (from .place) (s .place) (s .first) k y) (all-passed t from q limit room most at n (s .place) (s .first) g o (fullAt from) x l);
       }
+  measured-passed {at} {s} {n} {most} i g o (one {c} {r} z y e a h) l =
+      record {
+        within = omega (arith, g, l);
+        is = i .is
+            ∙ ap (λ (u : State). cut (fullAt from) limit room n (rest t q (from .place) at u)) (settled s z)
+            ∙ rw h (one-more t from q limit room most at n (s .place) (s .first) g o (fullAt from) y e a l);
+      }
+  measured-passed {at} {s} {n} {most} i g o (then {u} {r} x y) l =
+      let low = passes-low x in
+      let high = passes-low y in
+      let k : n + (u .at - at) + (most - (u .at - at)) ≡ n + most = omega (arith, low, high, l) in
+      let z : n + (r .at - at) ≡ n + (u .at - at) + (r .at - u .at) = omega (arith, low, high) in
+      rw z (measured-passed {most = most - (u .at - at)} (measured-passed i g o x (omega (arith, high, l))) (omega (arith, k, g)) (λ m. rw k (o (omega (arith, m)))) y (omega (arith, low, high, l)))

@@ -116,7 +116,7 @@ module _ (t : List ℕ) (q limit n at : ℕ) (s : State) (within : passes limit 
 
     one : rest t q start at s ≡ checks (tooLongAt start (cursor (at + 1) (advanced p)) (once q)) (adds (encoded q) (rest t q start (at + 2) (behindOf s 2)))
     one =
-        ap (λ (r : State). rest t q start at r) (settled s empty (x .kept))
+        ap (λ (r : State). rest t q start at r) (settled s (record { empty = empty; all = x .kept }))
         ∙ goes-on isWhite t q start at (state p (s .first) Empty 0) taken acted
         ∙ rw (further, behind)
 

@@ -1,10 +1,11 @@
 // One turn of a string literal, its first half: a character is taken. The state between two turns, and how a scan is over.
-ghost use mathlib.Core.Bool.{false};
+ghost use mathlib.Core.Bool.{true, false};
 ghost use mathlib.Core.Path.{_≡_};
-ghost use Rattle.string_take.specs.Kinds.{isVerbatim, isContinued, isInterpolated};
+ghost use Prim.Native.Nat.{_+_, _≤_, _<_};
+ghost use Rattle.string_take.specs.Kinds.{backtick, isVerbatim, isContinued, isInterpolated};
 ghost use Rattle.string_take.specs.Endings.{once, ending, unterminatedAt};
 ghost use Rattle.string_take.specs.Turns.{isEmpty, nextIs, endOf, dollarOf, takeOf};
-ghost use Rattle.string_take.specs.Passing.{Passes};
+ghost use Rattle.string_take.specs.Passing.{Settled, Added, placeBehind, Passes};
 use chars::cursor::Cursor;
 use chars::cursor::Taken;
 use fault::Fault;
@@ -199,36 +200,137 @@ pub fn take(text: &[u8], q: u32, start: Position, at: usize, s: State) -> Got
     Got::Char(c, here)
 }
 
-// Inner: passes at once what turns would only take and add, in `most` bytes at the most: with no escape pending and no white
-// space to skip, all but the terminator, a backslash, `$`, LF and CR. The terminators are ASCII; by any other number nothing
-// is passed.
-pub fn pass(text: &[u8], q: u32, most: usize, at: usize, s: State) -> Stood
-    ensures { λ r. ⌜ Passes (now (text .entry)) q most at s r ⌝ }
+// No escape is pending and no white space is skipped.
+fn is_settled(s: State) -> bool
+    ensures { λ r. ⌜ (r ≡ true → Settled s) ⌝ }
 {
     if 0 < s.skip {
-        return Stood { at, state: s };
-    }
-    if 0x7F < q {
-        return Stood { at, state: s };
+        return false;
     }
     let escape = s.escape;
-    if escape.is_empty() {
-        let passed = chars::passing::pass(text, at, most, q, BACKSLASH, DOLLAR, LF, CR);
-        if passed.count == 0 {
-            return Stood { at, state: s };
-        }
-        let place = s.place.advanced_by(passed.count);
+    escape.is_empty()
+}
+
+// Passes all but the terminator, a backslash, `$`, LF and CR, in `most` bytes at the most.
+fn stretch(text: &[u8], q: u32, most: usize, at: usize, s: State) -> Stood
+    requires { ⌜ Settled s × (q < 0x80) ⌝ }
+    ensures { λ r. ⌜ Passes (now (text .entry)) q at s r ⌝ }
+    ensures { λ r. ⌜ r .at ≤ at + most ⌝ }
+{
+    let passed = chars::passing::pass(text, at, most, q, BACKSLASH, DOLLAR, LF, CR);
+    if passed.count == 0 {
+        return Stood { at, state: s };
+    }
+    let place = s.place.advanced_by(passed.count);
+    let first = s.first.or_else(s.place.advanced());
+    let state = State {
+        place,
+        first,
+        escape: Pending::Empty,
+        skip: 0,
+    };
+    Stood {
+        at: passed.at,
+        state,
+    }
+}
+
+// Whether a turn of text only adds the character c, which ends at an offset, although the rules name it.
+fn is_added(text: &[u8], c: u32, end: usize) -> bool
+    ensures { λ r. ⌜ (r ≡ true → Added (now (text .entry)) end c) ⌝ }
+{
+    if c == LF {
+        return true;
+    }
+    if c == CR {
+        return !next_is(text, end, LF);
+    }
+    if c == DOLLAR {
+        return !next_is(text, end, LEFT_BRACE);
+    }
+    if c == BACKSLASH {
+        return !next_is(text, end, DOLLAR);
+    }
+    false
+}
+
+// The place behind a character that is added: a line feed begins a line.
+fn place_behind(c: u32, p: Position) -> Position
+    ensures { λ r. ⌜ r ≡ placeBehind c p ⌝ }
+{
+    let next = p.advanced();
+    if c == LF {
+        return next.lined();
+    }
+    next
+}
+
+// In text, passes a character that ended a stretch, if a turn only adds it, and the stretch behind it.
+fn pass_one(text: &[u8], most: usize, at: usize, s: State) -> Stood
+    requires { ⌜ Settled s × (0 < most) ⌝ }
+    ensures { λ r. ⌜ Passes (now (text .entry)) backtick at s r ⌝ }
+    ensures { λ r. ⌜ r .at ≤ at + most ⌝ }
+{
+    if text.len() <= at {
+        return Stood { at, state: s };
+    }
+    let c = text[at] as u32;
+    let end = at + 1;
+    if is_added(text, c, end) {
+        let passed = chars::passing::pass(text, end, most - 1, BACKTICK, BACKSLASH, DOLLAR, LF, CR);
+        let behind = place_behind(c, s.place);
+        let place = behind.advanced_by(passed.count);
         let first = s.first.or_else(s.place.advanced());
         let state = State {
             place,
             first,
-            escape,
+            escape: Pending::Empty,
             skip: 0,
         };
         return Stood {
             at: passed.at,
             state,
         };
+    }
+    Stood { at, state: s }
+}
+
+// In text, passes all that turns only add, behind a stretch.
+fn pass_on(text: &[u8], most: usize, from: usize, begin: State) -> Stood
+    requires { ⌜ Settled begin ⌝ }
+    ensures { λ r. ⌜ Passes (now (text .entry)) backtick from begin r ⌝ }
+    ensures { λ r. ⌜ r .at ≤ from + most ⌝ }
+{
+    let mut at = from;
+    let mut s = begin;
+    let mut left = most;
+    while 0 < left {
+        let next = pass_one(text, left, at, s);
+        if next.at == at {
+            return next;
+        }
+        left -= next.at - at;
+        at = next.at;
+        s = next.state;
+    }
+    Stood { at, state: s }
+}
+
+// Inner: passes at once what turns would only take and add, in `most` bytes at the most, with no escape pending and no white
+// space to skip. The terminators are ASCII; by any other number nothing is passed.
+pub fn pass(text: &[u8], q: u32, most: usize, at: usize, s: State) -> Stood
+    ensures { λ r. ⌜ Passes (now (text .entry)) q at s r ⌝ }
+    ensures { λ r. ⌜ r .at ≤ at + most ⌝ }
+{
+    if 0x7F < q {
+        return Stood { at, state: s };
+    }
+    if is_settled(s) {
+        let near = stretch(text, q, most, at, s);
+        if is_verbatim(q) {
+            return pass_on(text, most - (near.at - at), near.at, near.state);
+        }
+        return near;
     }
     Stood { at, state: s }
 }

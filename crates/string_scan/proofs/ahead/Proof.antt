@@ -7,12 +7,12 @@ use lib.ListN.{length}
 use borrow.Author.Needs.{needs}
 use Rattle.position.specs.Place.{start}
 use Rattle.string_take.specs.declared.Stood.{Stood}
+use Rattle.string_take.proofs.Passing.{passes-low, passes-within}
 use Rattle.string_scan.specs.Limited.{GoesOn}
 use Rattle.string_scan.specs.Standing.{Leads}
 use Rattle.string_scan.specs.Units.{Unit-at, behindOf}
 use Rattle.string_scan.specs.declared.Stand.{Stand}
 use Rattle.string_scan.proofs.Leading.{stand, stays, passes-on, adds-on}
-use Rattle.string_scan.proofs.Copying as copying
 use Rattle.string_scan.proofs.ahead.Statement.{statement}
 use Rattle.string_scan.proofs.ahead.Tie as tie
 
@@ -43,13 +43,13 @@ module _ (k : tie.After-copy Inv-loop μ-loop) where
   memory = k .copy .last .1 .1 .1 .0
 
   leads : Leads (begin .args .text .now) (begin .args .q) (begin .args .limit) (begin .args .room) (begin .args .from) (begin .args .out .now) (stand (there .at) (there .state) so-far) memory
-  leads = passes-on _ _ _ _ _ _ (top .loop .inv) (call .before .most .ensures .0) (call .before .most .ensures .1) (call .pass .ensures) (k .copy .ensures)
+  leads = passes-on _ _ _ _ _ _ (top .loop .inv) (call .before .most .ensures .0) (call .before .most .ensures .1) (call .pass .ensures .0) (call .pass .ensures .1) (k .copy .ensures)
 
   further : top .loop .at ≤ there .at
-  further = copying.passed-low _ _ start _ (call .pass .ensures) .0
+  further = passes-low (call .pass .ensures .0)
 
 within : (c : tie.After-copy-arg Inv-loop μ-loop) → c .before .before .before .loop .at < c .before .pass .result .at → c .before .pass .result .at ≤ length (c .before .before .before .before .before .before .before .args .text .now)
-within c = copying.passed-low _ _ start _ (c .before .pass .ensures) .1
+within c = passes-within (c .before .pass .ensures .0)
 
 -- and behind the unit
 module _ (k : tie.After-unit-at Inv-loop μ-loop) where
