@@ -27,22 +27,30 @@ pub fn record_token(ends: Ends, number: u32, place: Place) -> Option<Ends> {
 }
 
 /// The numbers and places of a script's tokens, EOF or the first fault last.
-///
-/// An interpolated text goes on after the `}` that ends its block, as the source's parser asks.
 pub fn tokens(script: &str) -> Option<Vec<(u32, Place)>> {
-    caught(|| listed(script))
+    caught(|| {
+        let mut listed = Vec::new();
+        drive(script, false, |token, place| {
+            listed.push((token::number(token), place));
+        });
+        listed
+    })
 }
 
-fn listed(script: &str) -> Vec<(u32, Place)> {
+/// The source's own run, to EOF or its first fault, with comments returned or skipped.
+///
+/// An interpolated text goes on after the `}` that ends its block, as the source's parser asks.
+#[inline(always)]
+pub(crate) fn drive(script: &str, comments: bool, mut each: impl FnMut(&Token, Place)) {
     let engine = Engine::default();
     let scripts = [script];
-    let (stream, control) = engine.lex_raw(&scripts, None);
-    let mut listed = Vec::new();
+    let (mut stream, control) = engine.lex_raw(&scripts, None);
+    stream.state.include_comments = comments;
     // Braces open in each interpolated block, the outermost first.
     let mut blocks: Vec<usize> = Vec::new();
 
     for (token, place) in stream {
-        listed.push((token::number(&token), to_pair(place)));
+        each(&token, to_pair(place));
         match token {
             Token::EOF | Token::LexError(..) => break,
             Token::InterpolatedString(..) => blocks.push(0),
@@ -63,5 +71,4 @@ fn listed(script: &str) -> Vec<(u32, Place)> {
             _ => (),
         }
     }
-    listed
 }

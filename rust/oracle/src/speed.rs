@@ -4,10 +4,11 @@
 //! answered. Here each function reads the source's own stream, nothing is caught, and an answer is
 //! dropped as soon as it is there.
 
+use crate::run::drive;
 use crate::tokenizer::{self, access, InputStream, MultiInputsStream, TokenizeState};
-use crate::types::position::access::{from_pair, to_pair};
+use crate::types::position::access::from_pair;
 use crate::types::Token;
-use crate::{Engine, Place, Position};
+use crate::{Place, Position};
 use std::arch::asm;
 
 /// Makes the compiler believe that the value is looked at, at no cost.
@@ -30,7 +31,7 @@ pub struct Seen<'a> {
 
 /// Reads a whole script and drops its tokens. Answers how many there were, a fault counting as one.
 pub fn run(script: &str, comments: bool) -> usize {
-    drive(script, comments, |token, place| {
+    counted(script, comments, |token, place| {
         kept(token);
         kept(&place);
     })
@@ -38,7 +39,7 @@ pub fn run(script: &str, comments: bool) -> usize {
 
 /// The same, and shows every token.
 pub fn seen(script: &str, comments: bool, mut each: impl FnMut(Seen)) -> usize {
-    drive(script, comments, |token, place| {
+    counted(script, comments, |token, place| {
         let mut bytes = [0; 4];
         each(Seen {
             place,
@@ -57,44 +58,16 @@ pub fn seen(script: &str, comments: bool, mut each: impl FnMut(Seen)) -> usize {
     })
 }
 
-/// The source's own run to its end or its first fault. An interpolated text goes on after the `}`
-/// that ends its block, as the source's parser asks.
+/// The source's own run, and how many tokens it has before EOF.
 #[inline(always)]
-fn drive(script: &str, comments: bool, mut each: impl FnMut(&Token, Place)) -> usize {
-    let engine = Engine::default();
-    let scripts = [script];
-    let (mut stream, control) = engine.lex_raw(&scripts, None);
-    stream.state.include_comments = comments;
-    // Braces open in each interpolated block, the outermost first.
-    let mut blocks: Vec<usize> = Vec::new();
+fn counted(script: &str, comments: bool, mut each: impl FnMut(&Token, Place)) -> usize {
     let mut count = 0;
-
-    for (token, place) in stream {
-        if matches!(token, Token::EOF) {
-            break;
+    drive(script, comments, |token, place| {
+        if !matches!(token, Token::EOF) {
+            count += 1;
+            each(token, place);
         }
-        count += 1;
-        each(&token, to_pair(place));
-        match token {
-            Token::LexError(..) => break,
-            Token::InterpolatedString(..) => blocks.push(0),
-            Token::LeftBrace | Token::MapStart => {
-                if let Some(open) = blocks.last_mut() {
-                    *open += 1;
-                }
-            }
-            Token::RightBrace => {
-                if let Some(open) = blocks.last_mut() {
-                    *open -= 1;
-                    if *open == 0 {
-                        blocks.pop();
-                        control.borrow_mut().is_within_text = true;
-                    }
-                }
-            }
-            _ => (),
-        }
-    }
+    });
     count
 }
 
