@@ -211,12 +211,19 @@ fn is_settled(s: State) -> bool
     escape.is_empty()
 }
 
-// Passes all but the terminator, a backslash, `$`, LF and CR, in `most` bytes at the most.
+// Passes all but the terminator, a backslash, `$`, LF and CR, in `most` bytes at the most. What is read at once often stands side by
+// side, so the first character is looked at before the stretch is begun.
 fn stretch(text: &[u8], q: u32, most: usize, at: usize, s: State) -> Stood
     requires { ⌜ Settled s × (q < 0x80) ⌝ }
     ensures { λ r. ⌜ Passes (now (text .entry)) q at s r ⌝ }
     ensures { λ r. ⌜ r .at ≤ at + most ⌝ }
 {
+    if next_is(text, at, BACKSLASH) {
+        return Stood { at, state: s };
+    }
+    if next_is(text, at, q) {
+        return Stood { at, state: s };
+    }
     let passed = chars::passing::pass(text, at, most, q, BACKSLASH, DOLLAR, LF, CR);
     if passed.count == 0 {
         return Stood { at, state: s };
