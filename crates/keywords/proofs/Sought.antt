@@ -1,5 +1,5 @@
--- The lookup, as a walk over the tokens whose texts begin with the text's first byte. Assumes nothing.
-use Prim.Native.Nat.{ℕ, zero, suc, zero-le, _+_, _≤_, _<_}
+-- The lookup, as a walk over the tokens whose texts begin with the text's first byte, if one of them is as long. Assumes nothing.
+use Prim.Native.Nat.{ℕ, zero, suc, zero-le, _+_, _/_, _%_, _^_, _≤_, _<_}
 use native.Mathlib.Omega.{arith}
 use mathlib.Core.Bool.{Bool, true, false}
 use mathlib.Core.Path.{_≡_, refl, sym, ap, _∙_}
@@ -13,9 +13,10 @@ use Rattle.basis.specs.Words.{word}
 use Rattle.basis.proofs.Bounds.{split}
 use Rattle.basis.proofs.Cases.{both-no, true-left, true-right}
 use Rattle.token.specs.Tokens as Token
+use Rattle.token.specs.Tokens.{among}
 use Rattle.token.specs.Keywords.{Entry, keywords, textIn}
 use Rattle.token.specs.declared.Lookup.the-variants.{Some, None}
-use Rattle.word_table.specs.Spelt.{numberFrom, numberOf, speltOf, starts, firstIn, firstOf, behind, nextOf}
+use Rattle.word_table.specs.Spelt.{numberFrom, numberOf, speltOf, starts, firstIn, firstOf, lengthsIn, bitsOf, lengthsOf, behind, nextOf}
 use Rattle.word_table.proofs.Numbers.{Bytes, bytes, bytes-are, number-same}
 use Rattle.keywords.specs.Lookup.{begins, same, lookupIn, lookupOf}
 use Rattle.keywords.proofs.Same.{same-text, same-self, other-length}
@@ -150,6 +151,41 @@ none-longer s h (e ∷ es) t =
     let l = leb→le (length (e .text)) 8 (true-left (leb (length (e .text)) 8) (short es) t) in
     rw (← other-length (e .text) s (λ z. omega arith)) (none-longer s h es (true-right (leb (length (e .text)) 8) (short es) t))
 
+-- ---- a listed text's own length is noted under its first byte
+-- bit n of the lengths that are noted under a byte
+abbrev noted : ℕ → ℕ → ℕ
+noted b n = lengthsOf b / (2 ^ n) % 2
+
+-- the test: a text is empty, or its length is noted
+own : List ℕ → Bool
+own w = either (eqb (length w) 0) (eqb (noted (getD w 0 0) (length w)) 1)
+
+all-own : List Entry → Bool
+all-own [] = true
+all-own (e ∷ es) = both (own (e .text)) (all-own es)
+
+listed-own : T (all-own keywords)
+unfolding own all-own keywords word among starts lengthsIn bitsOf lengthsOf
+listed-own = tt
+
+-- a text whose length is not noted is none of them
+module _ (s : List ℕ) (n : length s ≡ 0 → ⊥) (h : noted (getD s 0 0) (length s) ≡ 0) where
+  other-noted : (w : List ℕ) → T (own w) → false ≡ same w s
+  unfolding own
+  other-noted w t = by (same w s) refl
+    where
+      by : (x : Bool) → same w s ≡ x → false ≡ x
+      by true y =
+          let z : T (own s) = rw (same-text w s y) at t in
+          absurd (rw (ne-eqb (length s) 0 n, h) at z)
+      by false y = refl
+
+  none-noted : (es : List Entry) → T (all-own es) → None ≡ lookupIn es s
+  unfolding all-own lookupIn
+  none-noted [] t = refl
+  none-noted (e ∷ es) t =
+      rw (← other-noted (e .text) (true-left (own (e .text)) (all-own es) t)) (none-noted es (true-right (own (e .text)) (all-own es) t))
+
 module _ (s : List ℕ) where
   pub empty-none : length s ≡ 0 → None ≡ lookupOf s
   unfolding lookupOf
@@ -158,6 +194,10 @@ module _ (s : List ℕ) where
   pub long-none : 8 < length s → None ≡ lookupOf s
   unfolding lookupOf
   long-none h = rw (ne-eqb (length s) 0 (λ z. omega arith)) (none-longer s h keywords all-short)
+
+  pub length-none : (length s ≡ 0 → ⊥) → noted (getD s 0 0) (length s) ≡ 0 → None ≡ lookupOf s
+  unfolding lookupOf
+  length-none n h = rw (ne-eqb (length s) 0 n) (none-noted s n h keywords listed-own)
 
   -- the walk stands at a token, and the text is listed nowhere but from there on
   pub record Sought (t : ℕ) : Type 0 where

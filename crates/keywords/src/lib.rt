@@ -24,8 +24,9 @@ fn number_of(text: &[u8]) -> u64
     v
 }
 
-// The token of a keyword or symbol; none for any other text. It walks the tokens whose texts begin
-// with the text's first byte, four at most, and compares numbers.
+// The token of a keyword or symbol; none for any other text. Most names are none because no listed
+// text has their first byte and their length. For the others it walks the tokens whose texts begin
+// with that byte, four at most, and compares numbers.
 pub fn lookup_symbol_from_syntax(text: &[u8]) -> Lookup
     ensures { λ r. ⌜ r ≡ lookupOf (now (text .entry)) ⌝ }
 {
@@ -35,10 +36,11 @@ pub fn lookup_symbol_from_syntax(text: &[u8]) -> Lookup
     if LONGEST < text.len() {
         return Lookup::None;
     }
-    let mut token = word_table::first_of(text[0]);
-    if token == EOF {
+    let b = text[0];
+    if (word_table::lengths_of(b) >> text.len() as u32) % 2 == 0 {
         return Lookup::None;
     }
+    let mut token = word_table::first_of(b);
     let v = number_of(text);
     while token != EOF {
         if word_table::spelt(token) == v {

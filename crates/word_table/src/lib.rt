@@ -1,8 +1,8 @@
 // The words as tables that the machine holds ready: each function here is one match that answers a
 // number, so a caller reads an entry and rebuilds nothing. A word is found by walking the tokens
-// whose texts begin with its first byte.
+// whose texts begin with its first byte, where one of them is as long as it is.
 ghost use mathlib.Core.Path.{_≡_};
-ghost use Rattle.word_table.specs.Spelt.{speltOf, firstOf, nextOf};
+ghost use Rattle.word_table.specs.Spelt.{speltOf, firstOf, lengthsOf, nextOf};
 use token::tokens::*;
 
 // Inner: the first token, in the order of the list, whose text begins with a byte; EOF for none.
@@ -50,6 +50,55 @@ pub fn first_of(b: u8) -> u8
         b'|' => PIPE,
         b'}' => RIGHT_BRACE,
         _ => EOF,
+    }
+}
+
+// Inner: how long the texts are that begin with a byte: bit n, the rightmost being bit 0, is set if
+// one has n bytes.
+pub fn lengths_of(b: u8) -> u32
+    ensures { λ r. ⌜ r ≡ lengthsOf b ⌝ }
+{
+    match b {
+        b'!' => 0b000001110,
+        b'#' => 0b000000100,
+        b'%' => 0b000000110,
+        b'&' => 0b000000110,
+        b'(' => 0b000000110,
+        b')' => 0b000000010,
+        b'*' => 0b000001110,
+        b'+' => 0b000000110,
+        b',' => 0b000000010,
+        b'-' => 0b000000110,
+        b'.' => 0b000001110,
+        b'/' => 0b000000110,
+        b':' => 0b000000110,
+        b';' => 0b000000010,
+        b'<' => 0b000001110,
+        b'=' => 0b000000110,
+        b'>' => 0b000001110,
+        b'?' => 0b000000100,
+        b'[' => 0b000000010,
+        b']' => 0b000000010,
+        b'^' => 0b000000110,
+        b'_' => 0b000000010,
+        b'a' => 0b000000100,
+        b'b' => 0b000100000,
+        b'c' => 0b100100000,
+        b'd' => 0b000000100,
+        b'e' => 0b001010000,
+        b'f' => 0b000101100,
+        b'i' => 0b001000100,
+        b'l' => 0b000011000,
+        b'p' => 0b010000000,
+        b'r' => 0b001000000,
+        b's' => 0b001000000,
+        b't' => 0b000111000,
+        b'u' => 0b000100000,
+        b'w' => 0b000100000,
+        b'{' => 0b000000010,
+        b'|' => 0b000000110,
+        b'}' => 0b000000010,
+        _ => 0,
     }
 }
 

@@ -1,32 +1,44 @@
--- The loop keeps that the text is listed nowhere but from its token on.
-use Prim.Native.Nat.{_<_}
+-- A text whose length is not noted under its first byte is listed nowhere; the loop keeps that the text is listed nowhere but from its token on.
+use Prim.Native.Nat.{ℕ, _<_}
 use native.Mathlib.Omega.{arith}
+use mathlib.Core.List.{List}
 use mathlib.Core.Path.{_≡_}
+use lib.ListN.{length}
 use borrow.Author.Needs.{needs}
 use Rattle.word_table.specs.Spelt.{numberOf}
 use Rattle.word_table.proofs.Numbers.{Bytes}
-use Rattle.keywords.proofs.Sought.{Sought, empty-none, long-none, sought-first, sought-end, sought-next, found, left, goes-on}
+use Rattle.keywords.proofs.Sought.{Sought, empty-none, long-none, length-none, sought-first, sought-end, sought-next, found, left, goes-on}
 use Rattle.keywords.proofs.lookup_symbol_from_syntax.Statement.{statement}
 use Rattle.keywords.proofs.lookup_symbol_from_syntax.Tie as tie
 
 abbrev Inv-loop : tie.InvT-loop
-Inv-loop text token₀ v token = Bytes text × (v ≡ numberOf text) × Sought text token × (token < 256)
+Inv-loop text b token₀ v token = Bytes text × (v ≡ numberOf text) × Sought text token × (token < 256)
 
 abbrev μ-loop : tie.MeasureT-loop
-μ-loop text token₀ v token = left 5 token
+μ-loop text b token₀ v token = left 5 token
 
--- the first token, and what is known there
-module _ (c : tie.After-first-of Inv-loop μ-loop) where
-  abbrev known : tie.After-shared-slice-known2 Inv-loop μ-loop
-  known = c .before
+-- the text's first byte is read
+module _ (k : tie.After-shared-slice-known2 Inv-loop μ-loop) where
+  abbrev text : List ℕ
+  text = k .before .before .before .before .args .text .now
 
-  first : Sought (known .before .before .before .before .args .text .now) (c .first-of .result)
-  first = sought-first _ (known .before .before .if1 .left) (omega (arith, known .shared-slice-known2 .given 0)) _ (c .first-of .ensures)
+  some : length text ≡ 0 → ⊥
+  some = k .before .before .if1 .left
+
+  whole : Bytes text
+  whole i = omega (arith, k .shared-slice-known2 .given i)
+
+-- no listed text that begins with it is as long
+returns-3 : tie.Need-returns-3 Inv-loop μ-loop
+returns-3 c =
+    let call = c .before in
+    length-none _ (some (call .before)) (rw (call .lengths-of .ensures) at (c .if3 .taken))
 
 loop-holds : tie.Need-loop-holds Inv-loop μ-loop
 loop-holds c =
-    let call = c .before .before in
-    ((λ i. omega (arith, call .before .shared-slice-known2 .given i)), c .number-of .ensures, first call, omega arith)
+    let first = c .before in
+    let read = first .before .before .before in
+    (whole read, c .number-of .ensures, sought-first _ (some read) (whole read 0) _ (first .first-of .ensures), omega arith)
 
 returns-4 : tie.Need-returns-4 Inv-loop μ-loop
 returns-4 c =
@@ -57,7 +69,10 @@ lookup-symbol-from-syntax-spec =
     (λ c. long-none _ (c .if2 .taken))
     (λ c. omega arith)
     (λ c κs. search needs)
-    (λ c. sought-end _ _ (first (c .before)) (c .if3 .taken))
+    (λ c. omega arith)
+    (λ c. omega arith)
+    returns-3
+    (λ c κs. search needs)
     (λ c κs. search needs)
     loop-holds
     (λ c κs. search needs)
