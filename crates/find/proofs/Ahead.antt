@@ -1,22 +1,18 @@
 -- What is found ends further on, within the script; and no limit and no room makes a script wrong. Assumes nothing.
-use Prim.Native.Nat.{ℕ, _+_, _-_, _≤_, _<_}
-use Prim.Native.Char.{code}
+use Prim.Native.Nat.{ℕ, _+_, _≤_, _<_}
 use native.Mathlib.Omega.{arith}
-use mathlib.Core.Bool.{Bool, true, false}
 use mathlib.Core.List.{List}
-use mathlib.Core.Path.{_≡_, refl, sym, _∙_}
+use mathlib.Core.Path.{_≡_, refl}
 use lib.Dec.{eqb}
 use lib.ListN.{length}
-use borrow.Author.Tests.{eqb-true}
-use Rattle.basis.specs.Pick.{pick, either}
 use Rattle.basis.proofs.Cases.{pick-cases}
 use Rattle.position.specs.declared.Position.{Position}
-use Rattle.position.specs.Place.{advanced, lined}
+use Rattle.position.specs.Place.{advanced}
 use Rattle.utf8.specs.Table.{lookAt}
 use Rattle.utf8.specs.declared.Look.{Look}
 use Rattle.utf8.specs.declared.Look.the-variants as look
 use Rattle.utf8.proofs.Laws.{at-width}
-use Rattle.classes.specs.Class.{isNumericDigit, isIdFirstAlphabetic}
+use Rattle.classes.specs.Class.{isNumericDigit}
 use Rattle.white.specs.White.{isWhite}
 use Rattle.chars.specs.Cursors.{cursor}
 use Rattle.chars.specs.declared.cursor.Cursor.{Cursor}
@@ -35,10 +31,12 @@ use Rattle.symbols.specs.declared.Longest.the-variants.{Symbol, Nothing}
 use Rattle.symbols.proofs.Longer.{offset-within}
 use Rattle.comment.specs.Block.{commentOf}
 use Rattle.comment.proofs.Ends.{comment-reached}
-use Rattle.find.specs.Find.{whiteOf, wordOf, numberOf, symbolOf, lineOf, blockOf, codeOf, slashOf, hashOf, markOf, beginsOf, onLook, findOf}
+use Rattle.find.specs.Find.{whiteOf, wordOf, numberOf, symbolOf, lineOf, blockOf, signAt, onSign, markOf, beginsWord, beginsOf, onLook, findOf}
+use Rattle.find.specs.declared.Sign.{Sign}
+use Rattle.find.specs.declared.Sign.the-variants as sign
 use Rattle.find.specs.declared.Found.{Found}
 use Rattle.find.specs.declared.Found.the-variants.{White, Part, Literal, Wrong, End}
-use Rattle.find.proofs.Begins.{code-within}
+use Rattle.find.proofs.Begins.{Paired, sign-paired}
 
 -- behind an offset, within the script
 abbrev pub Further : List ℕ → ℕ → Cursor → Type 0
@@ -81,40 +79,32 @@ module _ (t book : List ℕ) (at c w : ℕ) (p : Position) (e : lookAt t at ≡ 
   word-ahead : Ahead t at (wordOf (identifyOf t book (cursor at p)))
   word-ahead = wording t book at p (identifyOf t book (cursor at p)) (identified-ahead t book (cursor at p))
 
-  -- one character behind `/`
-  pair-ahead : (d : ℕ) → codeOf (lookAt t (at + 1)) ≡ d → d < 0x110000 → at + 2 ≤ length t
-  pair-ahead d q h = omega (arith, code-within t (at + 1) d q h)
+  line-ahead : at + 2 ≤ length t → Ahead t at (lineOf t (cursor (at + 2) (advanced p)))
+  unfolding lineOf
+  line-ahead h = let r = end-reached Stretch.Line t (cursor (at + 2) (advanced p)) in (omega (arith, r .0), r .1 h)
 
-  slash-ahead : Ahead t at (slashOf t at p (codeOf (lookAt t (at + 1))))
-  unfolding slashOf lineOf blockOf
-  slash-ahead =
-      let d = codeOf (lookAt t (at + 1)) in
+  block-ahead : at + 2 ≤ length t → Ahead t at (blockOf t (cursor (at + 2) (advanced p)))
+  unfolding blockOf
+  block-ahead h =
       let from = cursor (at + 2) (advanced p) in
-      pick-cases (Ahead t at) (eqb d (code "/")) _ _
-      (λ y. let r = end-reached Stretch.Line t from in (omega (arith, r .0), r .1 (pair-ahead 0x2F (eqb-true d 0x2F y) (omega arith))))
-      (λ m. pick-cases (Ahead t at) (eqb d (code "*")) _ _
-      (λ y. let r = comment-reached t from 1 in pick-cases (Ahead t at) (eqb (commentOf t from 1 .level) 0) _ _ (λ z. (omega (arith, r .forward), r .within (pair-ahead 0x2A (eqb-true d 0x2A y) (omega arith)))) (λ z. (λ q. omega arith, λ q. omega arith, λ q. omega arith)))
-      (λ n. symbol-ahead t at 1 p))
-
-  hash-ahead : Ahead t at (hashOf t at p (codeOf (lookAt t (at + 1))))
-  unfolding hashOf
-  hash-ahead = pick-cases (Ahead t at) (eqb (codeOf (lookAt t (at + 1))) (code "{")) _ _ (λ y. symbol-ahead t at 1 p) (λ n. (omega arith, omega (arith, wide)))
+      let r = comment-reached t from 1 in
+      pick-cases (Ahead t at) (eqb (commentOf t from 1 .level) 0) _ _ (λ y. (omega (arith, r .forward), r .within h)) (λ n. (λ q. omega arith, λ q. omega arith, λ q. omega arith))
 
   mark-ahead : Ahead t at (markOf t at p c w)
   unfolding markOf
-  mark-ahead =
-      pick-cases (Ahead t at) (eqb c (code "\"")) _ _ (λ y. (omega (arith, wide), wide .1))
-      (λ n1. pick-cases (Ahead t at) (eqb c (code "'")) _ _ (λ y. (omega (arith, wide), wide .1))
-      (λ n2. pick-cases (Ahead t at) (eqb c (code "`")) _ _ (λ y. (omega (arith, wide), wide .1))
-      (λ n3. pick-cases (Ahead t at) (eqb c (code "#")) _ _ (λ y. hash-ahead)
-      (λ n4. pick-cases (Ahead t at) (eqb c (code "/")) _ _ (λ y. slash-ahead)
-      (λ n5. symbol-ahead t at w p)))))
+  mark-ahead = by (signAt t at c) (sign-paired t at c)
+    where
+      by : (m : Sign) → Paired t at m → Ahead t at (onSign t at p w m)
+      by (sign.Literal k) h = (omega (arith, wide), wide .1)
+      by sign.Line h = line-ahead h
+      by sign.Block h = block-ahead h
+      by sign.Symbol h = symbol-ahead t at w p
 
   begins-ahead : Ahead t at (beginsOf t book at p c w)
   unfolding beginsOf numberOf
   begins-ahead =
       pick-cases (Ahead t at) (isWhite c) _ _ (λ y. white-ahead)
-      (λ n1. pick-cases (Ahead t at) (either (isIdFirstAlphabetic c) (eqb c (code "_"))) _ _ (λ y. word-ahead)
+      (λ n1. pick-cases (Ahead t at) (beginsWord c) _ _ (λ y. word-ahead)
       (λ n2. pick-cases (Ahead t at) (isNumericDigit c) _ _ (λ y. stretch-ahead)
       (λ n3. mark-ahead)))
 

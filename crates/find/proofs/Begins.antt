@@ -4,10 +4,12 @@ use native.Mathlib.Omega.{arith}
 use Prim.Native.Char.{code}
 use mathlib.Core.Bool.{Bool, true, false}
 use mathlib.Core.List.{List}
-use mathlib.Core.Path.{_≡_, refl, sym, ap, _∙_}
+use mathlib.Core.Path.{_≡_, refl, _∙_}
+use lib.Dec.{eqb}
 use lib.ListN.{length}
-use borrow.Author.Tests.{eq-eqb, ne-eqb}
-use Rattle.basis.specs.Pick.{pick, either}
+use borrow.Author.Tests.{eq-eqb, ne-eqb, eqb-true}
+use Rattle.basis.specs.Pick.{either}
+use Rattle.basis.proofs.Cases.{pick-cases}
 use Rattle.position.specs.declared.Position.{Position}
 use Rattle.position.specs.Place.{advanced, advancedBy, lined}
 use Rattle.utf8.specs.Table.{_‥_, within, lookAt}
@@ -29,13 +31,13 @@ use Rattle.identifier.specs.Identifiers.{identifyOf}
 use Rattle.identifier.specs.declared.Word.{Word}
 use Rattle.identifier.specs.declared.Identified.{Identified}
 use Rattle.identifier.specs.declared.Identified.the-variants as identified
-use Rattle.symbols.specs.Symbols.{longestSymbolOf}
 use Rattle.symbols.specs.declared.Longest.{Longest}
 use Rattle.symbols.specs.declared.Longest.the-variants.{Symbol, Nothing}
 use Rattle.comment.specs.Block.{commentOf}
-use Rattle.find.specs.Find.{symbol, number, string, text, raw, char, comment, whiteOf, wordOf, numberOf, symbolOf, lineOf, blockOf, codeOf, slashOf, hashOf, markOf, beginsOf, onLook, findOf}
-use Rattle.find.specs.declared.Found.{Found}
-use Rattle.find.specs.declared.Found.the-variants.{White, Part, Literal, Wrong, End}
+use Rattle.find.specs.Find.{symbol, number, string, text, raw, char, comment, whiteOf, wordOf, numberOf, symbolOf, blockOf, codeOf, slashOf, hashOf, signAt, onSign, markOf, beginsWord, beginsOf, findOf}
+use Rattle.find.specs.declared.Sign.{Sign}
+use Rattle.find.specs.declared.Sign.the-variants as sign
+use Rattle.find.specs.declared.Found.the-variants.{White, Part, Wrong, End}
 
 -- ---- white space
 module _ (c : ℕ) (to : Cursor) where
@@ -77,62 +79,110 @@ module _ (t : List ℕ) (from : Cursor) where
   unfolding blockOf
   block-open q = rw (ne-eqb _ 0 q)
 
--- ---- `/` and `#`, by the character behind them
-pub code-within : (t : List ℕ) (at c : ℕ) → codeOf (lookAt t at) ≡ c → c < 0x110000 → at + 1 ≤ length t
+-- ---- signs, by the character and the one behind it
+module _ (d : ℕ) where
+  pub hash-map : d ≡ 0x7B → hashOf d ≡ sign.Symbol
+  unfolding hashOf
+  hash-map q = rw (eq-eqb d 0x7B q)
+
+  pub hash-raw : (d ≡ 0x7B → ⊥) → hashOf d ≡ sign.Literal raw
+  unfolding hashOf
+  hash-raw q = rw (ne-eqb d 0x7B q)
+
+  pub slash-line : d ≡ 0x2F → slashOf d ≡ sign.Line
+  unfolding slashOf
+  slash-line q = rw (eq-eqb d 0x2F q)
+
+  pub slash-block : d ≡ 0x2A → slashOf d ≡ sign.Block
+  unfolding slashOf
+  slash-block q = rw (ne-eqb d 0x2F (λ r. omega arith), eq-eqb d 0x2A q)
+
+  pub slash-symbol : (d ≡ 0x2F → ⊥) → (d ≡ 0x2A → ⊥) → slashOf d ≡ sign.Symbol
+  unfolding slashOf
+  slash-symbol m n = rw (ne-eqb d 0x2F m, ne-eqb d 0x2A n)
+
+module _ (t : List ℕ) (at c : ℕ) where
+  pub at-quote : c ≡ 0x22 → signAt t at c ≡ sign.Literal string
+  unfolding signAt
+  at-quote q = rw (eq-eqb c 0x22 q)
+
+  pub at-apostrophe : c ≡ 0x27 → signAt t at c ≡ sign.Literal char
+  unfolding signAt
+  at-apostrophe q = rw (ne-eqb c 0x22 (λ r. omega arith), eq-eqb c 0x27 q)
+
+  pub at-backtick : c ≡ 0x60 → signAt t at c ≡ sign.Literal text
+  unfolding signAt
+  at-backtick q = rw (ne-eqb c 0x22 (λ r. omega arith), ne-eqb c 0x27 (λ r. omega arith), eq-eqb c 0x60 q)
+
+  pub at-hash : c ≡ 0x23 → signAt t at c ≡ hashOf (codeOf (lookAt t (at + 1)))
+  unfolding signAt
+  at-hash q = rw (ne-eqb c 0x22 (λ r. omega arith), ne-eqb c 0x27 (λ r. omega arith), ne-eqb c 0x60 (λ r. omega arith), eq-eqb c 0x23 q)
+
+  pub at-slash : c ≡ 0x2F → signAt t at c ≡ slashOf (codeOf (lookAt t (at + 1)))
+  unfolding signAt
+  at-slash q = rw (ne-eqb c 0x22 (λ r. omega arith), ne-eqb c 0x27 (λ r. omega arith), ne-eqb c 0x60 (λ r. omega arith), ne-eqb c 0x23 (λ r. omega arith), eq-eqb c 0x2F q)
+
+  pub at-symbol : (c ≡ 0x22 → ⊥) → (c ≡ 0x27 → ⊥) → (c ≡ 0x60 → ⊥) → (c ≡ 0x23 → ⊥) → (c ≡ 0x2F → ⊥) → signAt t at c ≡ sign.Symbol
+  unfolding signAt
+  at-symbol a b d e f = rw (ne-eqb c 0x22 a, ne-eqb c 0x27 b, ne-eqb c 0x60 d, ne-eqb c 0x23 e, ne-eqb c 0x2F f)
+
+-- ---- a comment's two characters are within the script
+abbrev pub Paired : List ℕ → ℕ → Sign → Type 0
+Paired t at (sign.Literal k) = Unit {0}
+Paired t at sign.Line = at + 2 ≤ length t
+Paired t at sign.Block = at + 2 ≤ length t
+Paired t at sign.Symbol = Unit {0}
+
+code-within : (t : List ℕ) (at c : ℕ) → codeOf (lookAt t at) ≡ c → c < 0x110000 → at + 1 ≤ length t
 code-within t at c q h = by (lookAt t at) refl
   where
     by : (x : Look) → lookAt t at ≡ x → at + 1 ≤ length t
     by (look.Char d w) e = omega (arith, at-width t at e)
     by look.End e = let y : codeOf look.End ≡ c = rw e at q in absurd (omega (arith, y, h))
 
-module _ (t : List ℕ) (at : ℕ) (p : Position) (d : ℕ) where
-  pub hash-map : d ≡ 0x7B → hashOf t at p d ≡ symbolOf at 1 p (longestSymbolOf t at)
-  unfolding hashOf
-  hash-map q = rw (eq-eqb d 0x7B q)
-
-  pub hash-raw : (d ≡ 0x7B → ⊥) → hashOf t at p d ≡ Literal raw (cursor (at + 1) p)
-  unfolding hashOf
-  hash-raw q = rw (ne-eqb d 0x7B q)
-
-  pub slash-line : d ≡ 0x2F → slashOf t at p d ≡ Part comment Token.Comment (endOf Stretch.Line t (cursor (at + 2) (advanced p)))
-  unfolding slashOf lineOf
-  slash-line q = rw (eq-eqb d 0x2F q)
-
-  pub slash-block : d ≡ 0x2A → slashOf t at p d ≡ blockOf t (cursor (at + 2) (advanced p))
+module _ (t : List ℕ) (at : ℕ) where
+  slash-paired : (d : ℕ) → codeOf (lookAt t (at + 1)) ≡ d → Paired t at (slashOf d)
   unfolding slashOf
-  slash-block q = rw (ne-eqb d 0x2F (λ r. omega arith), eq-eqb d 0x2A q)
+  slash-paired d e =
+      pick-cases (Paired t at) (eqb d (code "/")) _ _
+      (λ y. omega (arith, code-within t (at + 1) 0x2F (e ∙ eqb-true d 0x2F y) (omega arith)))
+      (λ m. pick-cases (Paired t at) (eqb d (code "*")) _ _
+      (λ y. omega (arith, code-within t (at + 1) 0x2A (e ∙ eqb-true d 0x2A y) (omega arith)))
+      (λ n. tt))
 
-  pub slash-symbol : (d ≡ 0x2F → ⊥) → (d ≡ 0x2A → ⊥) → slashOf t at p d ≡ symbolOf at 1 p (longestSymbolOf t at)
-  unfolding slashOf
-  slash-symbol m n = rw (ne-eqb d 0x2F m, ne-eqb d 0x2A n)
+  hash-paired : (d : ℕ) → Paired t at (hashOf d)
+  unfolding hashOf
+  hash-paired d = pick-cases (Paired t at) (eqb d (code "{")) _ _ (λ y. tt) (λ n. tt)
 
--- ---- marks
-module _ (t : List ℕ) (at : ℕ) (p : Position) (c w : ℕ) where
-  pub mark-quote : c ≡ 0x22 → markOf t at p c w ≡ Literal string (cursor (at + w) p)
-  unfolding markOf
-  mark-quote q = rw (eq-eqb c 0x22 q)
+  pub sign-paired : (c : ℕ) → Paired t at (signAt t at c)
+  unfolding signAt
+  sign-paired c =
+      pick-cases (Paired t at) (eqb c (code "\"")) _ _ (λ y. tt)
+      (λ n1. pick-cases (Paired t at) (eqb c (code "'")) _ _ (λ y. tt)
+      (λ n2. pick-cases (Paired t at) (eqb c (code "`")) _ _ (λ y. tt)
+      (λ n3. pick-cases (Paired t at) (eqb c (code "#")) _ _ (λ y. hash-paired _)
+      (λ n4. pick-cases (Paired t at) (eqb c (code "/")) _ _ (λ y. slash-paired _ refl)
+      (λ n5. tt)))))
 
-  pub mark-apostrophe : c ≡ 0x27 → markOf t at p c w ≡ Literal char (cursor (at + w) p)
-  unfolding markOf
-  mark-apostrophe q = rw (ne-eqb c 0x22 (λ r. omega arith), eq-eqb c 0x27 q)
+  pub block-within : (c : ℕ) → signAt t at c ≡ sign.Block → at + 2 ≤ length t
+  block-within c e = rw e at (sign-paired c)
 
-  pub mark-backtick : c ≡ 0x60 → markOf t at p c w ≡ Literal text (cursor (at + w) p)
-  unfolding markOf
-  mark-backtick q = rw (ne-eqb c 0x22 (λ r. omega arith), ne-eqb c 0x27 (λ r. omega arith), eq-eqb c 0x60 q)
+-- ---- what begins at a sign
+pub signed : (t : List ℕ) (at : ℕ) (p : Position) (c w : ℕ) {m : Sign} → signAt t at c ≡ m → markOf t at p c w ≡ onSign t at p w m
+unfolding markOf
+signed t at p c w e = rw e
 
-  pub mark-hash : c ≡ 0x23 → markOf t at p c w ≡ hashOf t at p (codeOf (lookAt t (at + 1)))
-  unfolding markOf
-  mark-hash q = rw (ne-eqb c 0x22 (λ r. omega arith), ne-eqb c 0x27 (λ r. omega arith), ne-eqb c 0x60 (λ r. omega arith), eq-eqb c 0x23 q)
+-- ---- what begins a word
+module _ (c : ℕ) where
+  pub word-letter : isIdFirstAlphabetic c ≡ true → beginsWord c ≡ true
+  unfolding beginsWord
+  word-letter y = rw y
 
-  pub mark-slash : c ≡ 0x2F → markOf t at p c w ≡ slashOf t at p (codeOf (lookAt t (at + 1)))
-  unfolding markOf
-  mark-slash q = rw (ne-eqb c 0x22 (λ r. omega arith), ne-eqb c 0x27 (λ r. omega arith), ne-eqb c 0x60 (λ r. omega arith), ne-eqb c 0x23 (λ r. omega arith), eq-eqb c 0x2F q)
+  pub word-other : isIdFirstAlphabetic c ≡ false → beginsWord c ≡ eqb c (code "_")
+  unfolding beginsWord
+  word-other n = rw n
 
-  pub mark-symbol : (c ≡ 0x22 → ⊥) → (c ≡ 0x27 → ⊥) → (c ≡ 0x60 → ⊥) → (c ≡ 0x23 → ⊥) → (c ≡ 0x2F → ⊥) → markOf t at p c w ≡ symbolOf at w p (longestSymbolOf t at)
-  unfolding markOf
-  mark-symbol a b d e f = rw (ne-eqb c 0x22 a, ne-eqb c 0x27 b, ne-eqb c 0x60 d, ne-eqb c 0x23 e, ne-eqb c 0x2F f)
-
--- ---- no letter and no digit is white
+-- ---- no letter, no `_` and no digit is white
 letter-plain : (c : ℕ) → isIdFirstAlphabetic c ≡ true → isWhite c ≡ false
 unfolding isIdFirstAlphabetic
 letter-plain c y = by (within (code "A" ‥ code "Z") c) refl y
@@ -140,6 +190,14 @@ letter-plain c y = by (within (code "A" ‥ code "Z") c) refl y
     by : (b : Bool) → within (code "A" ‥ code "Z") c ≡ b → either b (within (code "a" ‥ code "z") c) ≡ true → isWhite c ≡ false
     by true z h = plain (omega (arith, within-low (code "A" ‥ code "Z") c z)) (omega (arith, within-high (code "A" ‥ code "Z") c z))
     by false z h = plain (omega (arith, within-low (code "a" ‥ code "z") c h)) (omega (arith, within-high (code "a" ‥ code "z") c h))
+
+word-plain : (c : ℕ) → beginsWord c ≡ true → isWhite c ≡ false
+unfolding beginsWord
+word-plain c y = by (isIdFirstAlphabetic c) refl y
+  where
+    by : (b : Bool) → isIdFirstAlphabetic c ≡ b → either b (eqb c (code "_")) ≡ true → isWhite c ≡ false
+    by true z h = letter-plain c z
+    by false z h = let q = eqb-true c 0x5F h in plain (omega (arith, q)) (omega (arith, q))
 
 digit-plain : (c : ℕ) → isNumericDigit c ≡ true → isWhite c ≡ false
 unfolding isNumericDigit
@@ -159,20 +217,15 @@ module _ (t book : List ℕ) (s : Cursor) where
     unfolding findOf beginsOf
     finds-white y = rw (e, y)
 
-    pub finds-letter : isIdFirstAlphabetic c ≡ true → findOf t book s ≡ wordOf (identifyOf t book (cursor (s .at) p))
+    pub finds-word : beginsWord c ≡ true → findOf t book s ≡ wordOf (identifyOf t book (cursor (s .at) p))
     unfolding findOf beginsOf
-    finds-letter y = rw (e, letter-plain c y, y)
+    finds-word y = rw (e, word-plain c y, y)
 
-    module _ (m : isIdFirstAlphabetic c ≡ false) where
-      pub finds-underscore : c ≡ 0x5F → findOf t book s ≡ wordOf (identifyOf t book (cursor (s .at) p))
+    module _ (m : beginsWord c ≡ false) where
+      pub finds-digit : isNumericDigit c ≡ true → findOf t book s ≡ Part number Token.IntegerConstant (endOf Stretch.Word t (cursor (s .at + w) p))
+      unfolding findOf beginsOf numberOf
+      finds-digit y = rw (e, digit-plain c y, m, y)
+
+      pub finds-mark : isNumericDigit c ≡ false → isWhite c ≡ false → findOf t book s ≡ markOf t (s .at) p c w
       unfolding findOf beginsOf
-      finds-underscore q = rw (e, plain {c = c} (omega arith) (omega arith), m, eq-eqb c 0x5F q)
-
-      module _ (u : c ≡ 0x5F → ⊥) where
-        pub finds-digit : isNumericDigit c ≡ true → findOf t book s ≡ Part number Token.IntegerConstant (endOf Stretch.Word t (cursor (s .at + w) p))
-        unfolding findOf beginsOf numberOf
-        finds-digit y = rw (e, digit-plain c y, m, ne-eqb c 0x5F u, y)
-
-        pub finds-mark : isNumericDigit c ≡ false → isWhite c ≡ false → findOf t book s ≡ markOf t (s .at) p c w
-        unfolding findOf beginsOf
-        finds-mark y n = rw (e, n, m, ne-eqb c 0x5F u, y)
+      finds-mark y n = rw (e, n, m, y)

@@ -25,6 +25,8 @@ use Rattle.symbols.specs.Symbols.{longestSymbolOf}
 use Rattle.symbols.specs.declared.Longest.{Longest}
 use Rattle.symbols.specs.declared.Longest.the-variants.{Symbol, Nothing}
 use Rattle.comment.specs.Block.{commentOf}
+use Rattle.find.specs.declared.Sign.{Sign}
+use Rattle.find.specs.declared.Sign.the-variants as sign
 use Rattle.find.specs.declared.Found.{Found}
 use Rattle.find.specs.declared.Found.the-variants.{White, Part, Literal, Wrong, End}
 
@@ -81,31 +83,44 @@ abbrev pub codeOf : Look → ℕ
 codeOf (look.Char c w) = c
 codeOf look.End = 0x110000
 
--- what `/` begins, by the character behind it
-unfoldable pub slashOf : List ℕ → ℕ → Position → ℕ → Found
-slashOf t at p d =
-    pick (eqb d (code "/")) (lineOf t (cursor (at + 2) (advanced p)))
-    (pick (eqb d (code "*")) (blockOf t (cursor (at + 2) (advanced p))) (symbolOf at 1 p (longestSymbolOf t at)))
+-- what `/` is the sign of, by the character behind it
+unfoldable pub slashOf : ℕ → Sign
+slashOf d = pick (eqb d (code "/")) sign.Line (pick (eqb d (code "*")) sign.Block sign.Symbol)
 
--- what `#` begins, by the character behind it
-unfoldable pub hashOf : List ℕ → ℕ → Position → ℕ → Found
-hashOf t at p d = pick (eqb d (code "{")) (symbolOf at 1 p (longestSymbolOf t at)) (Literal raw (cursor (at + 1) p))
+-- what `#` is the sign of, by the character behind it
+unfoldable pub hashOf : ℕ → Sign
+hashOf d = pick (eqb d (code "{")) sign.Symbol (sign.Literal raw)
 
--- what a character begins that is not white, no letter, no `_` and no digit
+-- what a mark at an offset is the sign of. A mark is a character that is not white, no letter, no `_` and no digit
+unfoldable pub signAt : List ℕ → ℕ → ℕ → Sign
+signAt t at c =
+    pick (eqb c (code "\"")) (sign.Literal string)
+    (pick (eqb c (code "'")) (sign.Literal char)
+    (pick (eqb c (code "`")) (sign.Literal text)
+    (pick (eqb c (code "#")) (hashOf (codeOf (lookAt t (at + 1))))
+    (pick (eqb c (code "/")) (slashOf (codeOf (lookAt t (at + 1))))
+    sign.Symbol))))
+
+-- what begins at a sign, whose first character is so many bytes wide
+abbrev pub onSign : List ℕ → ℕ → Position → ℕ → Sign → Found
+onSign t at p w (sign.Literal k) = Literal k (cursor (at + w) p)
+onSign t at p w sign.Line = lineOf t (cursor (at + 2) (advanced p))
+onSign t at p w sign.Block = blockOf t (cursor (at + 2) (advanced p))
+onSign t at p w sign.Symbol = symbolOf at w p (longestSymbolOf t at)
+
+-- what a mark begins
 unfoldable pub markOf : List ℕ → ℕ → Position → ℕ → ℕ → Found
-markOf t at p c w =
-    pick (eqb c (code "\"")) (Literal string (cursor (at + w) p))
-    (pick (eqb c (code "'")) (Literal char (cursor (at + w) p))
-    (pick (eqb c (code "`")) (Literal text (cursor (at + w) p))
-    (pick (eqb c (code "#")) (hashOf t at p (codeOf (lookAt t (at + 1))))
-    (pick (eqb c (code "/")) (slashOf t at p (codeOf (lookAt t (at + 1))))
-    (symbolOf at w p (longestSymbolOf t at))))))
+markOf t at p c w = onSign t at p w (signAt t at c)
+
+-- a letter or `_`
+unfoldable pub beginsWord : ℕ → Bool
+beginsWord c = either (isIdFirstAlphabetic c) (eqb c (code "_"))
 
 -- what a character begins, so many bytes wide, at an offset and a place
 unfoldable pub beginsOf : List ℕ → List ℕ → ℕ → Position → ℕ → ℕ → Found
 beginsOf t book at p c w =
     pick (isWhite c) (whiteOf c (cursor (at + w) p))
-    (pick (either (isIdFirstAlphabetic c) (eqb c (code "_"))) (wordOf (identifyOf t book (cursor at p)))
+    (pick (beginsWord c) (wordOf (identifyOf t book (cursor at p)))
     (pick (isNumericDigit c) (numberOf t (cursor (at + w) p))
     (markOf t at p c w)))
 

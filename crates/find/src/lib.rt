@@ -15,7 +15,9 @@ ghost use Rattle.find.specs.Find.{
   codeOf,
   slashOf,
   hashOf,
+  signAt,
   markOf,
+  beginsWord,
   beginsOf,
   findOf,
 };
@@ -78,6 +80,18 @@ impl Found {
     pub const COMMENT: u8 = 10;
 }
 
+// What a mark is the sign of. A mark is a character that is not white, no letter, no `_` and no digit.
+enum Sign {
+    // A literal of a kind.
+    Literal(u8),
+    // A comment up to the end of its line.
+    Line,
+    // A block comment.
+    Block,
+    // A symbol, or nothing that a script may have.
+    Symbol,
+}
+
 // The longest listed symbol, whose first character is at a place; or 5, about a character so many bytes wide.
 fn symbol(text: &[u8], at: usize, place: Position, width: usize) -> Found
     requires { ⌜ at ≤ length (now text) ⌝ }
@@ -129,64 +143,87 @@ fn code_at(text: &[u8], at: usize) -> u32
     c
 }
 
-// What `/` begins, by the character behind it.
-fn slash(text: &[u8], at: usize, place: Position, d: u32) -> Found
-    requires { ⌜ (at + 1 ≤ length (now text)) × (d ≡ codeOf (lookAt (now text) (at + 1))) ⌝ }
-    ensures { λ r. ⌜ r ≡ slashOf (now (text .entry)) at place d ⌝ }
+// What `/` is the sign of, by the character behind it.
+fn slash(d: u32) -> Sign
+    ensures { λ r. ⌜ r ≡ slashOf d ⌝ }
 {
-    let from = Cursor {
-        at: at + 2,
-        place: place.advanced(),
-    };
     if d == SLASH {
-        return Found::Part(
-            Found::COMMENT,
-            tokens::COMMENT,
-            stretch::end_of(Stretch::Line, text, from),
-        );
+        return Sign::Line;
     }
     if d == STAR {
-        return block(text, from);
+        return Sign::Block;
     }
-    symbol(text, at, place, 1)
+    Sign::Symbol
 }
 
-// What `#` begins, by the character behind it.
-fn hash(text: &[u8], at: usize, place: Position, d: u32) -> Found
-    requires { ⌜ at + 1 ≤ length (now text) ⌝ }
-    ensures { λ r. ⌜ r ≡ hashOf (now (text .entry)) at place d ⌝ }
+// What `#` is the sign of, by the character behind it.
+fn hash(d: u32) -> Sign
+    ensures { λ r. ⌜ r ≡ hashOf d ⌝ }
 {
     if d == LEFT_BRACE {
-        return symbol(text, at, place, 1);
+        return Sign::Symbol;
     }
-    Found::Literal(Found::RAW, Cursor { at: at + 1, place })
+    Sign::Literal(Found::RAW)
 }
 
-// What a character begins that is not white, no letter, no `_` and no digit.
-fn mark(text: &[u8], at: usize, place: Position, c: u32, width: usize) -> Found
-    requires { ⌜ (at + width ≤ length (now text)) × (1 ≤ width) ⌝ }
-    ensures { λ r. ⌜ r ≡ markOf (now (text .entry)) at place c width ⌝ }
+// What a mark at an offset is the sign of.
+fn sign_at(text: &[u8], at: usize, c: u32) -> Sign
+    requires { ⌜ at ≤ length (now text) ⌝ }
+    ensures { λ r. ⌜ r ≡ signAt (now (text .entry)) at c ⌝ }
 {
-    let next = Cursor {
-        at: at + width,
-        place,
-    };
     if c == QUOTE {
-        return Found::Literal(Found::STRING, next);
+        return Sign::Literal(Found::STRING);
     }
     if c == APOSTROPHE {
-        return Found::Literal(Found::CHAR, next);
+        return Sign::Literal(Found::CHAR);
     }
     if c == BACKTICK {
-        return Found::Literal(Found::TEXT, next);
+        return Sign::Literal(Found::TEXT);
     }
     if c == HASH {
-        return hash(text, at, place, code_at(text, at + 1));
+        return hash(code_at(text, at + 1));
     }
     if c == SLASH {
-        return slash(text, at, place, code_at(text, at + 1));
+        return slash(code_at(text, at + 1));
     }
-    symbol(text, at, place, width)
+    Sign::Symbol
+}
+
+// What a mark begins. `symbol` is called from this one place, so that the compiler draws it in.
+fn mark(text: &[u8], at: usize, place: Position, c: u32, width: usize) -> Found
+    requires { ⌜ at + width ≤ length (now text) ⌝ }
+    ensures { λ r. ⌜ r ≡ markOf (now (text .entry)) at place c width ⌝ }
+{
+    let sign = sign_at(text, at, c);
+    match sign {
+        Sign::Literal(kind) => Found::Literal(
+            kind,
+            Cursor {
+                at: at + width,
+                place,
+            },
+        ),
+        Sign::Line => Found::Part(
+            Found::COMMENT,
+            tokens::COMMENT,
+            stretch::end_of(
+                Stretch::Line,
+                text,
+                Cursor {
+                    at: at + 2,
+                    place: place.advanced(),
+                },
+            ),
+        ),
+        Sign::Block => block(
+            text,
+            Cursor {
+                at: at + 2,
+                place: place.advanced(),
+            },
+        ),
+        Sign::Symbol => symbol(text, at, place, width),
+    }
 }
 
 // A name, a keyword, a reserved word, the symbol `_`; or 8.
@@ -202,6 +239,16 @@ fn word(book: &[u8], text: &[u8], start: Cursor) -> Found
         }
         Identified::Refused(fault, _) => Found::Wrong(fault),
     }
+}
+
+// A letter or `_`. It is one test, so that `word` is called from one place and drawn in as well.
+fn begins_word(c: u32) -> bool
+    ensures { λ r. ⌜ r ≡ beginsWord c ⌝ }
+{
+    if classes::is_id_first_alphabetic(c) {
+        return true;
+    }
+    c == UNDERSCORE
 }
 
 // Past a character that is white: only LF starts a line.
@@ -256,10 +303,7 @@ pub fn find(book: &[u8], text: &[u8], from: Cursor) -> Found
         at: at + width,
         place,
     };
-    if classes::is_id_first_alphabetic(c) {
-        return word(book, text, Cursor { at, place });
-    }
-    if c == UNDERSCORE {
+    if begins_word(c) {
         return word(book, text, Cursor { at, place });
     }
     if classes::is_numeric_digit(c) {

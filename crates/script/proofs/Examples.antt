@@ -79,7 +79,7 @@ pub record Worked : Type 0 where
   pub open-piece : Leaves "`${}" (entry 6 (place 1 1) 0 0 ∷ entry 3 (place 1 3) 2 1 ∷ entry 3 (place 1 4) 3 1 ∷ []) "" (Stop (fault 11 (place 1 5)))
 
 pub worked : Worked
-unfolding word none isNone up advanced advancedBy lined rewound orElse onLine columnNumber beginsLine look lookAt charsFrom chars charsAt wellFrom well edge isScalar encode encoded Class.digitOf isWhite getNextOf eatNextOf run runAt widths yields bytes Escapes.letterOf Escapes.digitsAfter Escapes.digitsFrom Escapes.numberOf Escapes.escapedOf isVerbatim isContinued isInterpolated unterminatedAt malformedAt isEmpty columnOf nextIs endOf dollarOf takeOf closeOf lineFeedOf escapeOf addOf plainOf otherOf matchOf actOf argumentAt tooLongAt fullAt lastOf String.turnOf String.rule String.begun String.readingOf Open.cutOff Open.openingTurn Open.openedOf Raw.heldBack Raw.placed Raw.atEnd Raw.turn Raw.bodyOf Raw.readOf Block.turn Block.commentOf Class.isNumericDigit Class.isIdFirstAlphabetic Class.isIdContinue Stretch.goesOn Stretch.endOf Identifiers.kindOf Identifiers.unlisted Identifiers.listed Identifiers.classOf Identifiers.answered Identifiers.spanned Identifiers.begun Identifiers.identifyOf Valid.afterUnderscores Valid.goesOn Valid.isValidIdentifier Valid.letterFirst Symbols.isSymbol Symbols.stands Symbols.standing Symbols.longer Symbols.longestIn Symbols.longestOf Symbols.longestSymbolOf final whole States.begun States.movedTo States.interpolated States.count States.opened States.closed States.behind Steps.terminatorOf Steps.traceOf Steps.wrongOf Steps.faultOf Steps.listedOf Steps.literalOf Steps.endOf Steps.stepOf States.counted States.resumed Find.whiteOf Find.wordOf Find.numberOf Find.symbolOf Find.lineOf Find.blockOf Find.slashOf Find.hashOf Find.markOf Find.beginsOf Find.findOf Script.readingFrom Script.scriptFrom Script.scriptOf start Look.begins Look.same Look.lookupIn Look.lookupOf Reserved.Stands Reserved.firstOf Reserved.isA Reserved.isB Reserved.answerOf Reserved.answered Reserved.reservedOf Reserved.eitherBook Reserved.heldOf Reserved.partOf Reserved.placeOf Reserved.foundPart Reserved.foundPlace Keywords.keywords Keywords.entryAt Book.few Book.runsOn Book.ascii Book.sized Book.flagged Book.fit Book.allFit Book.belowNext Book.rising Book.good Book.checkOf Contents.u16At Contents.count Contents.startAt Contents.sizeAt Contents.wordAt Contents.wordsFrom Contents.words Contents.enough Contents.rowsOf Contents.rowOf Order.compared Order.below Order.same
+unfolding word none isNone up advanced advancedBy lined rewound orElse onLine columnNumber beginsLine look lookAt charsFrom chars charsAt wellFrom well edge isScalar encode encoded Class.digitOf isWhite getNextOf eatNextOf run runAt widths yields bytes Escapes.letterOf Escapes.digitsAfter Escapes.digitsFrom Escapes.numberOf Escapes.escapedOf isVerbatim isContinued isInterpolated unterminatedAt malformedAt isEmpty columnOf nextIs endOf dollarOf takeOf closeOf lineFeedOf escapeOf addOf plainOf otherOf matchOf actOf argumentAt tooLongAt fullAt lastOf String.turnOf String.rule String.begun String.readingOf Open.cutOff Open.openingTurn Open.openedOf Raw.heldBack Raw.placed Raw.atEnd Raw.turn Raw.bodyOf Raw.readOf Block.turn Block.commentOf Class.isNumericDigit Class.isIdFirstAlphabetic Class.isIdContinue Stretch.goesOn Stretch.endOf Identifiers.kindOf Identifiers.unlisted Identifiers.listed Identifiers.classOf Identifiers.answered Identifiers.spanned Identifiers.begun Identifiers.identifyOf Valid.afterUnderscores Valid.goesOn Valid.isValidIdentifier Valid.letterFirst Symbols.isSymbol Symbols.stands Symbols.standing Symbols.longer Symbols.longestIn Symbols.longestOf Symbols.longestSymbolOf final whole States.begun States.movedTo States.interpolated States.count States.opened States.closed States.behind Steps.terminatorOf Steps.traceOf Steps.wrongOf Steps.faultOf Steps.listedOf Steps.literalOf Steps.endOf Steps.stepOf States.counted States.resumed Find.whiteOf Find.wordOf Find.numberOf Find.symbolOf Find.lineOf Find.blockOf Find.slashOf Find.hashOf Find.signAt Find.markOf Find.beginsWord Find.beginsOf Find.findOf Script.readingFrom Script.scriptFrom Script.scriptOf start Look.begins Look.same Look.lookupIn Look.lookupOf Reserved.Stands Reserved.firstOf Reserved.isA Reserved.isB Reserved.answerOf Reserved.answered Reserved.reservedOf Reserved.eitherBook Reserved.heldOf Reserved.partOf Reserved.placeOf Reserved.foundPart Reserved.foundPlace Keywords.keywords Keywords.entryAt Book.few Book.runsOn Book.ascii Book.sized Book.flagged Book.fit Book.allFit Book.belowNext Book.rising Book.good Book.checkOf Contents.u16At Contents.count Contents.startAt Contents.sizeAt Contents.wordAt Contents.wordsFrom Contents.words Contents.enough Contents.rowsOf Contents.rowOf Order.compared Order.below Order.same
 worked = record {
   listing = refl;
   nothing = refl;

@@ -8,8 +8,9 @@ use borrow.Author.Needs.{needs}
 use Rattle.utf8.specs.Table.{lookAt}
 use Rattle.utf8.specs.declared.Look.the-variants.{Char}
 use Rattle.utf8.proofs.Laws.{at-width}
-use Rattle.classes.specs.Class.{isNumericDigit, isIdFirstAlphabetic}
-use Rattle.find.proofs.Begins.{nothing-more, finds-white, finds-letter, finds-underscore, finds-digit, finds-mark}
+use Rattle.classes.specs.Class.{isNumericDigit}
+use Rattle.find.specs.Find.{beginsWord}
+use Rattle.find.proofs.Begins.{nothing-more, finds-white, finds-word, finds-digit, finds-mark}
 use Rattle.find.proofs.find.Statement.{statement}
 use Rattle.find.proofs.find.Tie as tie
 
@@ -32,49 +33,42 @@ module _ (k : tie.After-known-told) where
 
 -- the tests that failed, one behind the other
 module _ (k : tie.Else1) where
-  abbrev no-letter : tie.After-known-told
-  no-letter = k .before .before
+  abbrev no-word : tie.After-known-told
+  no-word = k .before .before
 
-  letter-not : isIdFirstAlphabetic (no-letter .before .c .given .0 .0) ≡ false
-  letter-not = sym (k .before .is-id-first-alphabetic .ensures) ∙ k .if1 .left
+  word-not : beginsWord (no-word .before .c .given .0 .0) ≡ false
+  word-not = sym (k .before .begins-word .ensures) ∙ k .if1 .left
 
-module _ (k : tie.Else3) where
+module _ (k : tie.Else2) where
   abbrev no-digit : tie.Else1
-  no-digit = k .before .before .before
+  no-digit = k .before .before
 
-  digit-not : isNumericDigit (no-letter no-digit .before .c .given .0 .0) ≡ false
-  digit-not = sym (k .before .is-numeric-digit .ensures) ∙ k .if3 .left
+  digit-not : isNumericDigit (no-word no-digit .before .c .given .0 .0) ≡ false
+  digit-not = sym (k .before .is-numeric-digit .ensures) ∙ k .if2 .left
 
-returns-2 : tie.Need-returns-2
-returns-2 c =
+word-returns : tie.Need-returns-2
+word-returns c =
     let k = c .before .before .before in
-    c .word .ensures ∙ rw (call k .before .advanced .ensures) (sym (finds-letter _ _ _ (seen k) (sym (c .before .before .is-id-first-alphabetic .ensures) ∙ c .before .if1 .taken)))
+    c .word .ensures ∙ rw (call k .before .advanced .ensures) (sym (finds-word _ _ _ (seen k) (sym (c .before .before .begins-word .ensures) ∙ c .before .if1 .taken)))
 
-returns-3 : tie.Need-returns-3
-returns-3 c =
-    let l = c .before .before in
-    let k = no-letter l in
-    c .word2 .ensures ∙ rw (call k .before .advanced .ensures) (sym (finds-underscore _ _ _ (seen k) (letter-not l) (c .before .if2 .taken)))
+number-returns : tie.Need-returns-3
+number-returns c =
+    let w = c .before .before .before in
+    let k = no-word w in
+    rw (c .end-of .ensures .0, call k .before .advanced .ensures) (sym (finds-digit _ _ _ (seen k) (word-not w) (sym (c .before .before .is-numeric-digit .ensures) ∙ c .before .if2 .taken)))
 
-returns-4 : tie.Need-returns-4
-returns-4 c =
-    let u = c .before .before .before in
-    let l = u .before in
-    let k = no-letter l in
-    rw (c .end-of .ensures .0, call k .before .advanced .ensures) (sym (finds-digit _ _ _ (seen k) (letter-not l) (u .if2 .left) (sym (c .before .before .is-numeric-digit .ensures) ∙ c .before .if3 .taken)))
+white-returns : tie.Need-returns-4
+white-returns c =
+    let k = no-word (no-digit (c .before .before .before)) in
+    c .white .ensures ∙ rw (call k .before .advanced .ensures) (sym (finds-white _ _ _ (seen k) (sym (c .before .before .is-white .ensures) ∙ c .before .if3 .taken)))
 
-returns-5 : tie.Need-returns-5
-returns-5 c =
-    let k = no-letter (no-digit (c .before .before .before)) in
-    c .white .ensures ∙ rw (call k .before .advanced .ensures) (sym (finds-white _ _ _ (seen k) (sym (c .before .before .is-white .ensures) ∙ c .before .if4 .taken)))
-
-returns-6 : tie.Need-returns-6
-returns-6 c =
+mark-returns : tie.Need-returns-5
+mark-returns c =
     let d = c .before .before .before in
-    let l = no-digit d in
-    let k = no-letter l in
+    let w = no-digit d in
+    let k = no-word w in
     c .mark .ensures ∙ rw (call k .before .advanced .ensures)
-    (sym (finds-mark _ _ _ (seen k) (letter-not l) (d .before .before .if2 .left) (digit-not d) (sym (c .before .before .is-white .ensures) ∙ c .before .if4 .left)))
+    (sym (finds-mark _ _ _ (seen k) (word-not w) (digit-not d) (sym (c .before .before .is-white .ensures) ∙ c .before .if3 .left)))
 
 pub find-spec : {M : Type 1} → statement M
 find-spec =
@@ -88,14 +82,12 @@ find-spec =
     (λ c. omega (arith, wide c))
     (λ c κs. search needs)
     (λ c κs. search needs)
-    returns-2
-    (λ c κs. search needs)
-    returns-3
+    word-returns
     (λ c κs. search needs)
     (λ c κs. search needs)
-    returns-4
+    number-returns
     (λ c κs. search needs)
     (λ c κs. search needs)
-    returns-5
-    (λ c κs. let w = wide (no-letter (no-digit (c .before .before))) in search (needs, w))
-    returns-6)
+    white-returns
+    (λ c κs. wide (no-word (no-digit (c .before .before))) .1)
+    mark-returns)

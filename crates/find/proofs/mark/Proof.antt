@@ -1,26 +1,59 @@
--- Each mark by its law.
-use native.Mathlib.Omega.{arith}
+-- What each sign begins. A comment's two characters are within the script.
 use mathlib.Core.Path.{sym, _∙_}
 use borrow.Author.Needs.{needs}
-use Rattle.find.proofs.Begins.{mark-quote, mark-apostrophe, mark-backtick, mark-hash, mark-slash, mark-symbol}
+use Rattle.find.specs.Find.{lineOf}
+use Rattle.find.proofs.Begins.{block-within, signed}
 use Rattle.find.proofs.mark.Statement.{statement}
 use Rattle.find.proofs.mark.Tie as tie
+
+block-requires : tie.Need-block-requires
+block-requires c κs =
+    let told = c .before in
+    let call = told .before .before in
+    block-within _ _ _ (sym (call .sign-at .ensures) ∙ told .enum-told2 .given .1)
+
+literal-returns : tie.Need-returns
+literal-returns c =
+    let call = c .before .before .before in
+    sym (signed _ _ _ _ _ (sym (call .sign-at .ensures) ∙ c .before .sign .given .1))
+
+line-returns : tie.Need-returns-2
+unfolding lineOf
+line-returns c =
+    let told = c .before .before in
+    let call = told .before .before in
+    rw (c .end-of .ensures .0, c .before .advanced .ensures) (sym (signed _ _ _ _ _ (sym (call .sign-at .ensures) ∙ told .enum-told .given .1)))
+
+block-returns : tie.Need-returns-3
+block-returns c =
+    let told = c .before .before in
+    let call = told .before .before in
+    c .block .ensures ∙ rw (c .before .advanced2 .ensures) (sym (signed _ _ _ _ _ (sym (call .sign-at .ensures) ∙ told .enum-told2 .given .1)))
+
+symbol-returns : tie.Need-returns-4
+symbol-returns c =
+    let told = c .before in
+    let call = told .before .before in
+    c .symbol .ensures ∙ sym (signed _ _ _ _ _ (sym (call .sign-at .ensures) ∙ told .enum-told3 .given .1))
 
 pub mark-spec : {M : Type 1} → statement M
 mark-spec =
     tie.close
     (tie.spec
-    (λ c. search needs)
-    (λ c. sym (mark-quote _ _ _ _ _ (c .if1 .taken)))
-    (λ c. sym (mark-apostrophe _ _ _ _ _ (c .if2 .taken)))
-    (λ c. sym (mark-backtick _ _ _ _ _ (c .if3 .taken)))
-    (λ c. search needs)
     (λ c κs. search needs)
-    (λ c κs. search needs)
-    (λ c. c .hash .ensures ∙ rw (c .before .code-at .ensures) (sym (mark-hash _ _ _ _ _ (c .before .before .if4 .taken))))
+    (λ c. search needs)
+    (λ c. search needs)
+    (λ c. search needs)
     (λ c. search needs)
     (λ c κs. search needs)
     (λ c κs. search needs)
-    (λ c. c .slash .ensures ∙ rw (c .before .code-at2 .ensures) (sym (mark-slash _ _ _ _ _ (c .before .before .if5 .taken))))
+    (λ c. search needs)
+    (λ c. search needs)
     (λ c κs. search needs)
-    (λ c. c .symbol .ensures ∙ sym (mark-symbol _ _ _ _ _ (c .before .before .before .before .before .if1 .left) (c .before .before .before .before .if2 .left) (c .before .before .before .if3 .left) (c .before .before .if4 .left) (c .before .if5 .left))))
+    block-requires
+    (λ c. search needs)
+    (λ c κs. search needs)
+    literal-returns
+    line-returns
+    block-returns
+    symbol-returns)
