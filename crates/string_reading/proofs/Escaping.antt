@@ -1,4 +1,4 @@
--- A whole escape is two turns: one takes the backslash and adds nothing, the other adds what the escape stands for. Assumes nothing.
+-- A whole escape is two turns: one takes the backslash and adds nothing, the other adds what the escape stands for. So is a backslash at the end of a line, which adds nothing. Assumes nothing.
 use Prim.Native.Nat.{ℕ, _+_, _-_, _≤_, _<_}
 use native.Mathlib.Omega.{arith}
 use native.Mathlib.Nat.{add-assoc}
@@ -10,46 +10,29 @@ use lib.ListN.{length}
 use borrow.Author.Tests.{eq-eqb, ne-eqb}
 use Rattle.basis.proofs.Cases.{both-no}
 use Rattle.position.specs.declared.Position.{Position}
-use Rattle.position.specs.Place.{orElse, advanced, advancedBy}
+use Rattle.position.specs.Place.{orElse, advanced, advancedBy, lined}
 use Rattle.position.proofs.Moves.{advanced-by-none, advanced-by-more, advanced-by-first, first-stays}
 use Rattle.utf8.specs.Table.{lookAt}
-use Rattle.utf8.specs.Encode.{encoded}
 use Rattle.utf8.specs.declared.Look.the-variants.{Char}
 use Rattle.chars.specs.Cursors.{cursor}
-use Rattle.chars.specs.Scan.{runAt}
 use Rattle.chars.specs.declared.cursor.Cursor.{Cursor}
 use Rattle.chars.proofs.Cursors.{ate}
-use Rattle.literal.specs.Trace.{Trace, adds, checks}
-use Rattle.literal.specs.declared.Refusal.{Refusal}
 use Rattle.escape.specs.Escapes.{nothing, escapedOf}
 use Rattle.escape.specs.Whole.{Whole-at, none, stands, itself}
 use Rattle.escape.specs.declared.Whole.{Whole}
 use Rattle.escape.specs.declared.Escaped.the-variants as escaped
-use Rattle.string_take.specs.Kinds.{lf, cr, backslash, isVerbatim, isInterpolated}
-use Rattle.string_take.specs.Endings.{once}
+use Rattle.string_take.specs.Kinds.{lf, cr, quote, backslash, isVerbatim, isContinued}
 use Rattle.string_take.specs.Turns.{state, isEmpty, takeOf}
 use Rattle.string_take.specs.declared.Pending.the-variants.{Empty, Backslash}
 use Rattle.string_take.specs.declared.State.{State}
 use Rattle.string_take.specs.declared.Got.the-variants as got
-use Rattle.string_act.specs.Turns.{closeOf, escapeOf, plainOf, otherOf, matchOf, actOf}
+use Rattle.string_act.specs.Turns.{columnOf, closeOf, lineFeedOf, escapeOf, plainOf, otherOf, matchOf, actOf}
 use Rattle.string_act.specs.declared.Step.{Step}
 use Rattle.string_act.specs.declared.Step.the-variants as step
-use Rattle.string_reading.specs.Ends.{tooLongAt}
-use Rattle.string_reading.specs.Scans.{rule, Escaping}
-use Rattle.string_reading.proofs.Readings.{goes-on, goes-low, goes-high}
+use Rattle.string_reading.specs.Scans.{Escaping}
+use Rattle.string_reading.proofs.Readings.{Twice, twice-on}
 
 module _ (white : ℕ → Bool) (t : List ℕ) (q : ℕ) (start : Position) (i : Escaping q) (p f : Position) (k b : ℕ) where
-  abbrev reading : ℕ → State → Trace
-  reading at s = runAt (rule white t q start) t at s
-
-  -- with two tests of the limit it goes on, and only d is added
-  pub record Twice (d next : ℕ) (r : State) : Type 0 where
-    pub seven : Refusal
-    pub eight : Refusal
-    pub is : reading b (state p f Empty k) ≡ checks seven (adds (encoded nothing) (checks eight (adds (encoded d) (reading next r))))
-    pub low : b < next
-    pub high : next ≤ length t
-
   -- before the backslash, and behind it
   abbrev before : State
   before = state p f Empty k
@@ -92,15 +75,24 @@ module _ (white : ℕ → Bool) (t : List ℕ) (q : ℕ) (start : Position) (i :
         acted-next : actOf white t q start c (cursor (b + 1 + 1) behind) pending ≡ step.Go d at′ (state p′ first Empty k)
         acted-next = acts ∙ rw (first-stays f p behind) x
 
-        twice : Twice d at′ (state p′ first Empty k)
-        twice =
-            record {
-              seven = tooLongAt start (cursor (b + 1) (advanced p)) (once q);
-              eight = tooLongAt start (cursor (b + 1 + 1) behind) (once q);
-              is = goes-on white t q start b before took acted ∙ rw (goes-on white t q start (b + 1) pending took-next acted-next);
-              low = omega (arith, goes-low white t q start (b + 1) pending took-next acted-next);
-              high = goes-high white t q start (b + 1) pending took-next acted-next;
-            }
+        twice : Twice white t q start b before d at′ (state p′ first Empty k)
+        twice = twice-on white t q start b before took acted took-next acted-next
+
+    -- a line feed behind it, in an ordinary literal: it goes on in the next line
+    module _ (h : q ≡ quote) (g : lookAt t (b + 1) ≡ Char lf 1) where
+      abbrev below : State
+      below = state (lined (advanced (advanced p))) (orElse f (advanced p)) Empty (columnOf start + 1)
+
+      took-feed : takeOf t q start (b + 1) pending ≡ got.Char lf (cursor (b + 1 + 1) (advanced (advanced p)))
+      unfolding takeOf
+      took-feed = rw (ate t (cursor (b + 1) (advanced p)) g, i .whole)
+
+      acted-feed : actOf white t q start lf (cursor (b + 1 + 1) (advanced (advanced p))) pending ≡ step.Go nothing (b + 1 + 1) below
+      unfolding actOf closeOf matchOf lineFeedOf isEmpty isVerbatim isContinued
+      acted-feed = rw (h, first-stays f p (advanced (advanced p)))
+
+      pub continues-twice : Twice white t q start b before nothing (b + 1 + 1) below
+      continues-twice = twice-on white t q start b before took acted took-feed acted-feed
 
   -- an escape that all literals have, and the escaped terminator
   abbrev escapes : ℕ → Step
@@ -123,7 +115,7 @@ module _ (white : ℕ → Bool) (t : List ℕ) (q : ℕ) (start : Position) (i :
       rw (y, x (advanced (advanced p)), eq-eqb q q refl, ← columns-behind 0, advanced-by-none)
 
   -- what was read at once
-  pub whole-twice : {w : Whole} → Whole-at t q b w → (w .width ≡ 0 → ⊥) → Twice (w .c) (b + w .width) (whole-on (w .width))
+  pub whole-twice : {w : Whole} → Whole-at t q b w → (w .width ≡ 0 → ⊥) → Twice white t q start b before (w .c) (b + w .width) (whole-on (w .width))
   whole-twice none n = absurd (n refl)
   whole-twice (stands {c} {d} m e g l x) n = twice e g l (escape-stands c d m x)
   whole-twice (itself e g l x) n = twice e g l (escape-itself x)

@@ -5,3 +5,4 @@ pub mod Lands
 pub mod Bodies
 pub mod Escaping
 pub mod Doubling
+pub mod Texts

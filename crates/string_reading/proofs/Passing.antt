@@ -24,8 +24,7 @@ use Rattle.literal.specs.Trace.{Trace, adds, checks}
 use Rattle.string_take.specs.Kinds.{lf, cr, dollar, backslash, backtick, leftBrace, isVerbatim, isInterpolated}
 use Rattle.string_take.specs.Endings.{once}
 use Rattle.string_take.specs.Turns.{state, isEmpty, nextIs, onTaken, dollarOf, takeOf}
-use Rattle.string_take.specs.Passing.{Plain, Settled, Added, feed, lone, sign, slash, placeBehind}
-use Rattle.string_take.specs.declared.Pending.{Pending}
+use Rattle.string_take.specs.Passing.{Plain, Added, feed, lone, sign, slash, placeBehind}
 use Rattle.string_take.specs.declared.Pending.the-variants.{Empty}
 use Rattle.string_take.specs.declared.State.{State}
 use Rattle.string_take.specs.declared.Got.{Got}
@@ -39,10 +38,6 @@ use Rattle.string_reading.proofs.Readings.{goes-on}
 pub either-way : {A : Type 0} (b : Bool) (x : A) {y : A} → y ≡ x → pick b y x ≡ x
 either-way true x e = e
 either-way false x e = refl
-
--- the state with no escape pending and nothing to skip
-pub settled : (s : State) → Settled s → s ≡ state (s .place) (s .first) Empty 0
-settled s z = ap (λ (x : Pending). state (s .place) (s .first) x (s .skip)) (z .empty) ∙ ap (λ (m : ℕ). state (s .place) (s .first) Empty m) (z .all)
 
 -- a backslash that no `$` follows is one
 no-sign : (t : List ℕ) (here : Cursor) (f : Cursor → Got) (g : Got) → nextIs t (here .at) dollar ≡ false → (x : Look) → lookAt t (here .at) ≡ x

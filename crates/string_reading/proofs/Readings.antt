@@ -16,6 +16,8 @@ use Rattle.chars.specs.declared.cursor.Cursor.{Cursor}
 use Rattle.chars.proofs.Scans.{move-on, move-over, at-end, many-on, is-over}
 use Rattle.chars.proofs.Cursors.{ate-none}
 use Rattle.literal.specs.Trace.{Trace, adds, checks, Yield, added, tested, yields}
+use Rattle.literal.specs.declared.Refusal.{Refusal}
+use Rattle.escape.specs.Escapes.{nothing}
 use Rattle.chars.proofs.Reaches.{Reached, Further, behind, further-on, Counted, counted, further-low, further-high}
 use Rattle.string_take.specs.Endings.{once}
 use Rattle.string_take.specs.Turns.{endOf, takeOf}
@@ -92,3 +94,39 @@ module _ (white : ℕ → Bool) (t : List ℕ) (q : ℕ) (start : Position) (at 
       pub goes-on : reading at s ≡ checks (tooLongAt start here (once q)) (adds (encoded d) (reading next r))
       unfolding rule yields
       goes-on = move-on (rule white t q start) t at s (moves (further-on further reached))
+
+-- ---- one turn, or two of which the first adds nothing: with a test of the limit in each it goes on, and only d is added
+module _ (white : ℕ → Bool) (t : List ℕ) (q : ℕ) (start : Position) (at : ℕ) (s : State) where
+  pub record Once (d next : ℕ) (r : State) : Type 0 where
+    pub seven : Refusal
+    pub is : reading white t q start at s at s ≡ checks seven (adds (encoded d) (reading white t q start at s next r))
+    pub low : at < next
+    pub high : next ≤ length t
+
+  pub record Twice (d next : ℕ) (r : State) : Type 0 where
+    pub seven : Refusal
+    pub eight : Refusal
+    pub is : reading white t q start at s at s ≡ checks seven (adds (encoded nothing) (checks eight (adds (encoded d) (reading white t q start at s next r))))
+    pub low : at < next
+    pub high : next ≤ length t
+
+  module _ {c : ℕ} {here : Cursor} (g : takeOf t q start at s ≡ got.Char c here) where
+    pub once-on : {d next : ℕ} {r : State} → actOf white t q start c here s ≡ step.Go d next r → Once d next r
+    once-on f =
+        record {
+          seven = tooLongAt start here (once q);
+          is = goes-on white t q start at s g f;
+          low = goes-low white t q start at s g f;
+          high = goes-high white t q start at s g f;
+        }
+
+    module _ {mid : ℕ} {m : State} (f : actOf white t q start c here s ≡ step.Go nothing mid m) where
+      pub twice-on : {c′ : ℕ} {here′ : Cursor} → takeOf t q start mid m ≡ got.Char c′ here′ → {d next : ℕ} {r : State} → actOf white t q start c′ here′ m ≡ step.Go d next r → Twice d next r
+      twice-on {c′} {here′} g′ f′ =
+          record {
+            seven = tooLongAt start here (once q);
+            eight = tooLongAt start here′ (once q);
+            is = goes-on white t q start at s g f ∙ ap (λ (x : Trace). checks (tooLongAt start here (once q)) (adds (encoded nothing) x)) (goes-on white t q start mid m g′ f′);
+            low = omega (arith, goes-low white t q start at s g f, goes-low white t q start mid m g′ f′);
+            high = goes-high white t q start mid m g′ f′;
+          }

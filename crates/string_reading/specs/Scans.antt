@@ -67,7 +67,7 @@ pub record Escaping (q : ℕ) : Type 0 where
   pub whole : isInterpolated q ≡ false
   pub other : eqb backslash q ≡ false
 
--- one of the three terminators: none of the characters that the rules name, not white, and of one byte
+-- one of the three terminators: none of the characters that the rules name, not white, and of one byte, which is not 0
 pub record Terminating (q : ℕ) : Type 0 where
   pub no-dollar : eqb q dollar ≡ false
   pub no-backslash : eqb q backslash ≡ false
@@ -75,3 +75,4 @@ pub record Terminating (q : ℕ) : Type 0 where
   pub no-lf : eqb q lf ≡ false
   pub no-white : isWhite q ≡ false
   pub low : q < 0x80
+  pub some : 0 < q

@@ -27,13 +27,13 @@ use Rattle.literal.specs.Trace.{Trace, adds, checks, bytes}
 use Rattle.literal.specs.declared.Refusal.{Refusal}
 use Rattle.string_take.specs.Kinds.{backtick}
 use Rattle.string_take.specs.Turns.{state}
-use Rattle.string_take.specs.Passing.{Plain, Added, placeBehind, Passes, none, some, one, then}
+use Rattle.string_take.specs.Passing.{Plain, Added, placeBehind, stateOf, Passes, none, some, one, then}
 use Rattle.string_take.specs.declared.Pending.the-variants.{Empty}
 use Rattle.string_take.specs.declared.State.{State}
 use Rattle.string_take.specs.declared.Stood.{Stood}
 use Rattle.string_take.proofs.Passing.{passes-low, passes-within}
 use Rattle.string_reading.specs.Scans.{rule, rest}
-use Rattle.string_reading.proofs.Passing.{settled, one-after, one-added, after-none, after-some}
+use Rattle.string_reading.proofs.Passing.{one-after, one-added, after-none, after-some}
 use Rattle.string_reading.proofs.Passing as passing
 use Rattle.string_scan.specs.Standing.{Written}
 use Rattle.string_scan.proofs.Writing.{written-on}
@@ -114,18 +114,17 @@ part-size t at to h =
     (split at to)
 
 module _ (t : List ℕ) (q : ℕ) (start : Position) where
-  pub passed-bytes : {at : ℕ} {s : State} {r : Stood} → Passes t q at s r → bytes (rest t q start at s) ≡ part t at (r .at) ++ bytes (rest t q start (r .at) (r .state))
-  passed-bytes {at} none = rw (part-none t at at (omega arith))
-  passed-bytes (some {at} {k} {b} {s} {r} z x y h) =
-      ap (λ (u : State). bytes (rest t q start at u)) (settled s z) ∙ rw (h, ← after-some isWhite t q start (s .place) (s .first) k y) (all-passed t q start at (s .place) (s .first) x)
-  passed-bytes (one {at} {c} {s} {r} z y e a h) = ap (λ (u : State). bytes (rest t q start at u)) (settled s z) ∙ rw h (one-more t q start at (s .place) (s .first) y e a)
-  passed-bytes (then {at} {s} {u} {r} x y) =
+  pub passed-bytes : {u r : Stood} → Passes t q u r → bytes (rest t q start (u .at) (stateOf u)) ≡ part t (u .at) (r .at) ++ bytes (rest t q start (r .at) (stateOf r))
+  passed-bytes {u} none = rw (part-none t (u .at) (u .at) (omega arith))
+  passed-bytes {u} (some {k = k} x y) = rw (← after-some isWhite t q start (u .place) (u .first) k y) (all-passed t q start (u .at) (u .place) (u .first) x)
+  passed-bytes {u} (one y e a) = one-more t q start (u .at) (u .place) (u .first) y e a
+  passed-bytes {u} {r} (then {v = v} x y) =
       passed-bytes x
-      ∙ ap (λ (l : List ℕ). part t at (u .at) ++ l) (passed-bytes y)
-      ∙ sym (append-assoc (part t at (u .at)) (part t (u .at) (r .at)) (bytes (rest t q start (r .at) (r .state))))
-      ∙ ap (λ (l : List ℕ). l ++ bytes (rest t q start (r .at) (r .state))) (part-on t at (u .at) (r .at) (passes-low x) (passes-low y))
+      ∙ ap (λ (l : List ℕ). part t (u .at) (v .at) ++ l) (passed-bytes y)
+      ∙ sym (append-assoc (part t (u .at) (v .at)) (part t (v .at) (r .at)) (bytes (rest t q start (r .at) (stateOf r))))
+      ∙ ap (λ (l : List ℕ). l ++ bytes (rest t q start (r .at) (stateOf r))) (part-on t (u .at) (v .at) (r .at) (passes-low x) (passes-low y))
 
 -- ---- the loop
-module _ (t : List ℕ) (q : ℕ) (from : Cursor) (old out : List ℕ) (at : ℕ) (s : State) (n : ℕ) (i : Written t q from old out at s n) where
-  pub written-passed : {r : Stood} → Passes t q at s r → {l : List ℕ} → l ≡ stored out n (part t at (r .at)) → Written t q from old l (r .at) (r .state) (n + (r .at - at))
-  written-passed {r} x v = written-on t q from old out at s n i (part t at (r .at)) (passed-bytes t q (from .place) x) (rw (part-size t at (r .at) (passes-within x))) v
+module _ (t : List ℕ) (q : ℕ) (from : Cursor) (old out : List ℕ) (u : Stood) (n : ℕ) (i : Written t q from old out (u .at) (stateOf u) n) where
+  pub written-passed : {r : Stood} → Passes t q u r → {l : List ℕ} → l ≡ stored out n (part t (u .at) (r .at)) → Written t q from old l (r .at) (stateOf r) (n + (r .at - u .at))
+  written-passed {r} x v = written-on t q from old out (u .at) (stateOf u) n i (part t (u .at) (r .at)) (passed-bytes t q (from .place) x) (rw (part-size t (u .at) (r .at) (passes-within x))) v

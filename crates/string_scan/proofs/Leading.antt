@@ -1,54 +1,89 @@
--- How a scan is led on: by nothing, by a stretch of plain characters, by what stands for one character. Assumes nothing.
+-- How a scan is led on: by nothing, by what is only taken and added, by a unit, by one thing and then another. Assumes nothing.
 use Prim.Native.Nat.{ℕ, _+_, _-_, _≤_, _<_}
 use native.Mathlib.Omega.{arith}
 use mathlib.Core.Bool.{false}
 use mathlib.Core.List.{List}
+use mathlib.Core.Logic.{⊎-elim}
 use mathlib.Core.Path.{_≡_, refl, sym, ap, _∙_}
 use lib.ListN.{length, take, drop}
 use Rattle.basis.specs.Store.{stored}
+use Rattle.basis.proofs.Bounds.{split}
 use Rattle.basis.proofs.Stores.{length-stored}
+use Rattle.position.specs.declared.Position.{Position}
+use Rattle.position.specs.Place.{orElse, advanced}
 use Rattle.utf8.specs.Encode.{encoded}
-use Rattle.escape.specs.declared.Whole.{Whole}
 use Rattle.literal.specs.Trace.{passes}
 use Rattle.string_take.specs.Passing.{Passes}
-use Rattle.string_take.proofs.Passing.{passes-low}
-use Rattle.string_take.specs.declared.State.{State}
+use Rattle.string_take.specs.Passing as passing
+use Rattle.string_take.proofs.Passing.{passes-low, passes-within}
+use Rattle.string_take.specs.Turns.{state}
+use Rattle.string_take.specs.declared.Pending.{Pending}
+use Rattle.string_take.specs.declared.Pending.the-variants.{Empty}
 use Rattle.string_take.specs.declared.Stood.{Stood}
-use Rattle.string_scan.specs.Standing.{Leads}
-use Rattle.string_scan.specs.Units.{Unit-at, behindOf}
+use Rattle.string_scan.specs.Standing.{Leads, Leads-anywhere}
+use Rattle.string_scan.specs.Units.{clearOf, standOf, Reads}
+use Rattle.string_scan.specs.declared.Clear.{Clear}
 use Rattle.string_scan.specs.declared.Stand.{Stand}
-use Rattle.string_scan.specs.declared.Turned.the-variants.{On}
+use Rattle.string_scan.specs.declared.Unit.{Unit}
 use Rattle.string_scan.proofs.Measuring.{measured-more}
 use Rattle.string_scan.proofs.Passing.{measured-passed}
 use Rattle.string_scan.proofs.Writing.{written-more}
 use Rattle.string_scan.proofs.Copying.{written-passed}
 
-abbrev pub stand : ℕ → State → ℕ → Stand
-stand at s n = record { at = at; state = s; n = n }
+abbrev pub clear : ℕ → Position → Position → ℕ → ℕ → Clear
+clear at p f k n = record { at = at; place = p; first = f; skip = k; n = n }
 
-module _ (t : List ℕ) (q limit room : ℕ) (from : Stand) (old : List ℕ) where
-  pub stays : from .n ≤ room → Leads t q limit room from old from old
-  stays h = record { measured = λ c i. i; written = λ c m i. i; low = omega arith; within = h; same = refl }
+module _ (t : List ℕ) (q : ℕ) (start : Position) (limit room : ℕ) where
+  pub stays : (from : Stand) (out : List ℕ) → from .n ≤ room → Leads t q start limit room from out from out
+  stays from out h = record { measured = λ c e i. i; written = λ c e old i. i; low = omega arith; high = λ l. absurd (omega arith); within = h; same = refl }
 
-  module _ {at : ℕ} {s : State} {n : ℕ} {out : List ℕ} (i : Leads t q limit room from old (stand at s n) out) where
-    pub passes-on : {most : ℕ} → n + most ≤ room → (0 < most → passes limit (n + most) ≡ false) → {r : Stood} → Passes t q at s r → r .at ≤ at + most
-        → {l : List ℕ} → l ≡ stored out n (take (r .at - at) (drop at t)) → Leads t q limit room from old (stand (r .at) (r .state) (n + (r .at - at))) l
-    passes-on {most} g o {r} x h v =
-        record {
-          measured = λ c m. measured-passed t c q limit room (i .measured c m) g o x h;
-          written = λ c first w. written-passed t q c first out at s n (i .written c first w) x v;
-          low = omega (arith, i .low, passes-low x);
-          within = omega (arith, g, passes-low x, h);
-          same = rw (v, length-stored out n (take (r .at - at) (drop at t))) (i .same);
-        }
+  pub leads-then : {a b c : Stand} {out mid now : List ℕ} → Leads t q start limit room a out b mid → Leads t q start limit room b mid c now → Leads t q start limit room a out c now
+  leads-then {a} {b} {c} x y =
+      record {
+        measured = λ k e i. y .measured k e (x .measured k e i);
+        written = λ k e old i. y .written k e old (x .written k e old i);
+        low = omega (arith, x .low, y .low);
+        high = λ l. ⊎-elim (λ m. y .high m) (λ m. let g = x .high (omega (arith, m, l)) in omega (arith, g, m)) (split (b .at) (c .at));
+        within = y .within;
+        same = y .same ∙ x .same;
+      }
 
-    pub adds-on : (w : Whole) → Unit-at limit n t q at s w → {m : ℕ} → m ≡ length (encoded (w .c)) → m ≤ room - n
-        → {l : List ℕ} → l ≡ stored out n (encoded (w .c)) → {r : State} → r ≡ behindOf s (w .width) → Leads t q limit room from old (stand (at + w .width) r (n + m)) l
-    adds-on w x {m} z h {l} v {r} e =
-        rw e (record {
-          measured = λ c u. measured-more t c q limit room (i .measured c u) (x (c .place)) refl z h;
-          written = λ c first u. written-more t q c first out at s n (i .written c first u) limit (x (c .place)) refl z v;
-          low = omega (arith, i .low);
-          within = omega (arith, i .within, h);
-          same = rw (v, length-stored out n (encoded (w .c))) (i .same);
+  -- a unit
+  module _ (here : Clear) (u : Unit) (w : here .n ≤ room) (x : Reads t q start here u) (o : passes limit (here .n) ≡ false) {m : ℕ} (z : m ≡ length (encoded (u .c))) (h : m ≤ room - here .n) where
+    pub adds-on : {out now : List ℕ} → now ≡ stored out (here .n) (encoded (u .c)) → {p f : Position} → p ≡ advanced (here .place) → f ≡ orElse (here .first) p
+        → Leads t q start limit room (standOf here) out (standOf (clear (here .at + u .width) (u .place) f (u .skip) (here .n + m))) now
+    adds-on {out} {now} v e i =
+        let g = x limit o in
+        rw (i, e) (record {
+          measured = λ c k j. measured-more t c q limit room j (rw k g) refl z h;
+          written = λ c k old j. written-more t q c old out (here .at) _ (here .n) j limit (rw k g) refl z v;
+          low = omega (arith, g .low);
+          high = λ l. g .high;
+          within = omega (arith, w, h);
+          same = rw v (length-stored out (here .n) (encoded (u .c)));
         })
+
+  -- a state with no escape pending is its other parts
+  as-it-stands : (from : Stand) → from .state .escape ≡ Empty → standOf (clearOf (from .at) (from .state) (from .n)) ≡ from
+  as-it-stands from e = ap (λ (x : Pending). record { at = from .at; state = state (from .state .place) (from .state .first) x (from .state .skip); n = from .n }) (sym e)
+
+  pub cleared-leads : (from : Stand) → from .state .escape ≡ Empty → {here to : Clear} {r : Stand} {out now : List ℕ} → here ≡ clearOf (from .at) (from .state) (from .n) → r ≡ standOf to
+      → Leads t q start limit room (standOf here) out (standOf to) now → Leads t q start limit room from out r now
+  cleared-leads from e {here} {to} {r} {out} {now} h g x =
+      let y : Leads t q start limit room (standOf (clearOf (from .at) (from .state) (from .n))) out (standOf to) now = rw h at x in
+      let z : Leads t q start limit room from out (standOf to) now = rw (as-it-stands from e) at y in
+      rw g z
+
+-- what was passed, and copied
+module _ (t : List ℕ) (q limit room : ℕ) {at n most : ℕ} {p f : Position} (h : n ≤ room) (g : n + most ≤ room) (o : 0 < most → passes limit (n + most) ≡ false) where
+  pub passes-on : {r : Stood} → Passes t q (passing.stood at p f) r → r .at ≤ at + most → {out now : List ℕ} → now ≡ stored out n (take (r .at - at) (drop at t))
+      → Leads-anywhere t q limit room (standOf (clear at p f 0 n)) out (standOf (clear (r .at) (r .place) (r .first) 0 (n + (r .at - at)))) now
+  passes-on {r} x l {out} v start =
+      record {
+        measured = λ c k i. measured-passed t c q limit room i g o x l;
+        written = λ c k old i. written-passed t q c old out (passing.stood at p f) n i x v;
+        low = passes-low x;
+        high = passes-within x;
+        within = omega (arith, g, passes-low x, l);
+        same = rw v (length-stored out n (take (r .at - at) (drop at t)));
+      }

@@ -25,14 +25,14 @@ use Rattle.literal.specs.declared.Scanned.{Scanned}
 use Rattle.literal.proofs.Within.{tests-within}
 use Rattle.string_take.specs.Kinds.{backtick}
 use Rattle.string_take.specs.Turns.{state}
-use Rattle.string_take.specs.Passing.{Plain, Added, placeBehind, Passes, none, some, one, then}
+use Rattle.string_take.specs.Passing.{Plain, Added, placeBehind, stateOf, Passes, none, some, one, then}
 use Rattle.string_take.specs.declared.Pending.the-variants.{Empty}
 use Rattle.string_take.specs.declared.State.{State}
 use Rattle.string_take.specs.declared.Stood.{Stood}
 use Rattle.string_take.proofs.Passing.{passes-low}
 use Rattle.string_reading.specs.Ends.{fullAt}
 use Rattle.string_reading.specs.Scans.{rule, rest}
-use Rattle.string_reading.proofs.Passing.{settled, after, after-none, after-some, one-after, one-added}
+use Rattle.string_reading.proofs.Passing.{after, after-none, after-some, one-after, one-added}
 use Rattle.string_scan.specs.Standing.{Measured}
 
 -- a character's bytes in the body are as many as in the text
@@ -69,28 +69,21 @@ module _ (t : List ℕ) (from : Cursor) (q limit room most at n : ℕ) (p f : Po
 
 module _ (t : List ℕ) (from : Cursor) (q limit room : ℕ) where
   -- what was passed is measured, where neither is in the way for so many bytes
-  pub measured-passed : {at : ℕ} {s : State} {n most : ℕ} {r : Stood} → Measured t from q limit room at s n → n + most ≤ room → (0 < most → passes limit (n + most) ≡ false)
-      → Passes t q at s r → r .at ≤ at + most → Measured t from q limit room (r .at) (r .state) (n + (r .at - at))
-  measured-passed {at} {s} {n} i g o none l =
-      let z : n + (at - at) ≡ n = omega arith in
+  pub measured-passed : {u r : Stood} {n most : ℕ} → Measured t from q limit room (u .at) (stateOf u) n → n + most ≤ room → (0 < most → passes limit (n + most) ≡ false)
+      → Passes t q u r → r .at ≤ u .at + most → Measured t from q limit room (r .at) (stateOf r) (n + (r .at - u .at))
+  measured-passed {u} {n = n} i g o none l =
+      let z : n + (u .at - u .at) ≡ n = omega arith in
       rw z i
-  measured-passed {at} {s} {n} {most} i g o (some {k} {b} {r} z x y h) l =
+  measured-passed {u} {n = n} {most} i g o (some {k = k} x y) l =
       record {
         within = omega (arith, g, l, stretch-low x);
-        is = i .is
-            ∙ ap (λ (u : State). cut (fullAt from) limit room n (rest t q (from .place) at u)) (settled s z)
-            ∙ rw (h, ← after-some isWhite t q (from .place) (s .place) (s .first) k y) (all-passed t from q limit room most at n (s .place) (s .first) g o (fullAt from) x l);
+        is = i .is ∙ rw (← after-some isWhite t q (from .place) (u .place) (u .first) k y) (all-passed t from q limit room most (u .at) n (u .place) (u .first) g o (fullAt from) x l);
       }
-  measured-passed {at} {s} {n} {most} i g o (one {c} {r} z y e a h) l =
-      record {
-        within = omega (arith, g, l);
-        is = i .is
-            ∙ ap (λ (u : State). cut (fullAt from) limit room n (rest t q (from .place) at u)) (settled s z)
-            ∙ rw h (one-more t from q limit room most at n (s .place) (s .first) g o (fullAt from) y e a l);
-      }
-  measured-passed {at} {s} {n} {most} i g o (then {u} {r} x y) l =
+  measured-passed {u} {n = n} {most} i g o (one y e a) l =
+      record { within = omega (arith, g, l); is = i .is ∙ one-more t from q limit room most (u .at) n (u .place) (u .first) g o (fullAt from) y e a l }
+  measured-passed {u} {r} {n} {most} i g o (then {v = v} x y) l =
       let low = passes-low x in
       let high = passes-low y in
-      let k : n + (u .at - at) + (most - (u .at - at)) ≡ n + most = omega (arith, low, high, l) in
-      let z : n + (r .at - at) ≡ n + (u .at - at) + (r .at - u .at) = omega (arith, low, high) in
-      rw z (measured-passed {most = most - (u .at - at)} (measured-passed i g o x (omega (arith, high, l))) (omega (arith, k, g)) (λ m. rw k (o (omega (arith, m)))) y (omega (arith, low, high, l)))
+      let k : n + (v .at - u .at) + (most - (v .at - u .at)) ≡ n + most = omega (arith, low, high, l) in
+      let z : n + (r .at - u .at) ≡ n + (v .at - u .at) + (r .at - v .at) = omega (arith, low, high) in
+      rw z (measured-passed {most = most - (v .at - u .at)} (measured-passed i g o x (omega (arith, high, l))) (omega (arith, k, g)) (λ m. rw k (o (omega (arith, m)))) y (omega (arith, low, high, l)))

@@ -1,41 +1,43 @@
 -- What is read at once, as the turns that it stands for. Assumes nothing.
-use Prim.Native.Nat.{ℕ, _+_}
+use Prim.Native.Nat.{ℕ, _+_, _≤_, _<_}
 use native.Mathlib.Omega.{arith}
 use native.Mathlib.Nat.{add-zero}
-use mathlib.Core.Bool.{true, false}
+use mathlib.Core.Bool.{false}
 use mathlib.Core.List.{List, []}
+use mathlib.Core.Logic.{_⊎_, inl, inr, ⊎-elim}
 use mathlib.Core.Path.{_≡_, refl, sym, ap, _∙_}
-use lib.Dec.{eqb}
+use lib.ListN.{length, getD, List·getD-eq-default}
+use Rattle.basis.proofs.Bounds.{split}
 use Rattle.position.specs.declared.Position.{Position}
-use Rattle.position.specs.Place.{isNone, orElse, advanced, advancedBy}
+use Rattle.position.specs.Place.{isNone, orElse, columnNumber, advanced, advancedBy, lined}
 use Rattle.position.proofs.Moves.{advanced-by-none, advanced-by-more, first-set}
+use Rattle.utf8.specs.Table.{lookAt}
 use Rattle.utf8.specs.Encode.{isScalar, encoded}
+use Rattle.utf8.specs.declared.Look.the-variants.{Char}
+use Rattle.utf8.proofs.Bits.{look-ascii}
 use Rattle.utf8.proofs.Encodes.{encoded-none}
 use Rattle.white.specs.White.{isWhite}
 use Rattle.chars.specs.Cursors.{cursor}
 use Rattle.escape.specs.Escapes.{nothing}
-use Rattle.escape.specs.Whole.{whole}
+use Rattle.escape.specs.Whole.{Whole-at}
 use Rattle.escape.specs.declared.Whole.{Whole}
-use Rattle.literal.specs.Trace.{adds, checks, bytes, passes}
+use Rattle.literal.specs.Trace.{Trace, adds, checks, bytes, passes}
 use Rattle.literal.specs.Cut.{cut}
 use Rattle.literal.proofs.Turns.{cut-on, cut-adds}
-use Rattle.string_take.specs.Kinds.{quote, apostrophe, backtick, isVerbatim, isInterpolated}
-use Rattle.string_take.specs.Endings.{once}
-use Rattle.string_take.specs.Turns.{state, takeOf}
-use Rattle.string_take.specs.declared.Got.the-variants as got
-use Rattle.string_act.specs.Turns.{actOf}
-use Rattle.string_act.specs.declared.Step.the-variants as step
-use Rattle.string_reading.specs.Ends.{tooLongAt}
-use Rattle.string_take.specs.declared.Pending.{Pending}
+use Rattle.string_take.specs.Kinds.{lf, cr, quote, apostrophe, backtick, dollar, backslash, leftBrace, isVerbatim, isInterpolated}
+use Rattle.string_take.specs.Turns.{state}
 use Rattle.string_take.specs.declared.Pending.the-variants.{Empty}
 use Rattle.string_take.specs.declared.State.{State}
+use Rattle.string_act.specs.Turns.{columnOf}
 use Rattle.string_reading.specs.Scans.{rest, Escaping, Terminating}
-use Rattle.string_reading.proofs.Readings.{goes-on, goes-low, goes-high}
-use Rattle.string_reading.proofs.Escaping.{Twice, whole-twice}
-use Rattle.string_reading.proofs.Passing.{settled}
+use Rattle.string_reading.proofs.Readings.{Once, once-on, Twice}
+use Rattle.string_reading.proofs.Escaping.{whole-twice, continues-twice}
 use Rattle.string_reading.proofs.Doubling.{doubled-taken, doubled-acted}
+use Rattle.string_reading.proofs.Texts.{feed-twice, sign-once}
 use Rattle.string_scan.specs.Limited.{GoesOn}
-use Rattle.string_scan.specs.Units.{Escape-at, Doubled-at, behindOf}
+use Rattle.string_scan.specs.Units.{Terminator-of, Stands-at, stateOf, behindOf, Reads, Reads-anywhere}
+use Rattle.string_scan.specs.declared.Clear.{Clear}
+use Rattle.string_scan.specs.declared.Unit.{Unit}
 
 -- ---- the terminators
 pub quote-escapes : {q : ℕ} → q ≡ quote → Escaping q
@@ -48,84 +50,126 @@ apostrophe-escapes e = rw e (record { plain = refl; whole = refl; other = refl }
 
 pub quote-terminates : {q : ℕ} → q ≡ quote → Terminating q
 unfolding isWhite
-quote-terminates e = rw e (record { no-dollar = refl; no-backslash = refl; no-cr = refl; no-lf = refl; no-white = refl; low = omega arith })
+quote-terminates e = rw e (record { no-dollar = refl; no-backslash = refl; no-cr = refl; no-lf = refl; no-white = refl; low = omega arith; some = omega arith })
 
 pub apostrophe-terminates : {q : ℕ} → q ≡ apostrophe → Terminating q
 unfolding isWhite
-apostrophe-terminates e = rw e (record { no-dollar = refl; no-backslash = refl; no-cr = refl; no-lf = refl; no-white = refl; low = omega arith })
+apostrophe-terminates e = rw e (record { no-dollar = refl; no-backslash = refl; no-cr = refl; no-lf = refl; no-white = refl; low = omega arith; some = omega arith })
 
 pub backtick-terminates : {q : ℕ} → q ≡ backtick → Terminating q
 unfolding isWhite
-backtick-terminates e = rw e (record { no-dollar = refl; no-backslash = refl; no-cr = refl; no-lf = refl; no-white = refl; low = omega arith })
+backtick-terminates e = rw e (record { no-dollar = refl; no-backslash = refl; no-cr = refl; no-lf = refl; no-white = refl; low = omega arith; some = omega arith })
 
--- ---- a whole escape: two turns, of which the first adds nothing
+pub terminates : {q : ℕ} → Terminator-of q → Terminating q
+terminates (inl e) = quote-terminates e
+terminates (inr (inl e)) = apostrophe-terminates e
+terminates (inr (inr e)) = backtick-terminates e
+
+pub escapes : {q : ℕ} → Terminator-of q → (q ≡ backtick → ⊥) → Escaping q
+escapes (inl e) n = quote-escapes e
+escapes (inr (inl e)) n = apostrophe-escapes e
+escapes (inr (inr e)) n = absurd (n e)
+
+-- ---- the characters that a unit is made of
+pub ascii-at : (t : List ℕ) (at : ℕ) {b c : ℕ} → b ≡ getD t at 0 → b ≡ c → 0 < c → c < 0x80 → Stands-at t at c
+ascii-at t at {b} {c} e h low high =
+    let g : getD t at 0 ≡ c = sym e ∙ h in
+    ⊎-elim
+    (λ l. record { inside = l; is = sym (look-ascii t at l 1 (rw g high) refl) ∙ ap (λ (x : ℕ). Char x 1) g })
+    (λ l. absurd (let z : getD t at 0 ≡ 0 = List·getD-eq-default t 0 l in omega (arith, z, g, low)))
+    (split at (length t))
+
+-- ---- one turn, or two
 nothing-added : encoded nothing ≡ []
 unfolding isScalar
 nothing-added = encoded-none nothing refl
 
--- the state with no escape pending
-emptied : (s : State) → s .escape ≡ Empty → s ≡ state (s .place) (s .first) Empty (s .skip)
-emptied s e = ap (λ (x : Pending). state (s .place) (s .first) x (s .skip)) e
+module _ (t : List ℕ) (q : ℕ) (start : Position) (at : ℕ) (s : State) (limit n : ℕ) (within : passes limit n ≡ false) {d next : ℕ} {r : State} where
+  once-goes : Once isWhite t q start at s d next r → GoesOn limit n t q start at s d next r
+  unfolding bytes
+  once-goes x =
+      record {
+        is = λ full room h. ap (cut full limit room n) (x .is) ∙ cut-on full limit room n _ _ within;
+        body = ap bytes (x .is);
+        low = x .low;
+        high = x .high;
+      }
 
-module _ (t : List ℕ) (q limit n at : ℕ) (s : State) (within : passes limit n ≡ false) (empty : s .escape ≡ Empty) {w : Whole} (start : Position) where
-  module _ (x : Escape-at t q at w) (z : w .width ≡ 0 → ⊥) where
-    read : Twice isWhite t q start (x .has) (s .place) (s .first) (s .skip) at (w .c) (at + w .width) (behindOf s (w .width))
-    unfolding behindOf
-    read = whole-twice isWhite t q start (x .has) (s .place) (s .first) (s .skip) at (x .is) z
+  twice-goes : Twice isWhite t q start at s d next r → GoesOn limit n t q start at s d next r
+  unfolding bytes
+  twice-goes x =
+      let two : rest t q start at s ≡ checks (x .seven) (adds [] (checks (x .eight) (adds (encoded d) (rest t q start next r)))) = rw (← nothing-added) (x .is) in
+      record {
+        is = λ full room h.
+            ap (cut full limit room n) two
+            ∙ cut-on full limit room n _ _ within
+            ∙ cut-adds full limit room n 0 [] _ refl h (omega arith)
+            ∙ rw (add-zero n) (cut-on full limit room n _ _ within);
+        body = ap bytes two;
+        low = x .low;
+        high = x .high;
+      }
 
-    two : rest t q start at s ≡ checks (read .seven) (adds [] (checks (read .eight) (adds (encoded (w .c)) (rest t q start (at + w .width) (behindOf s (w .width))))))
-    two = ap (λ (r : State). rest t q start at r) (emptied s empty) ∙ rw (← nothing-added) (read .is)
+two-columns : (p : Position) → advancedBy 2 p ≡ advanced (advanced p)
+two-columns p = advanced-by-more 1 p ∙ ap advanced (advanced-by-more 0 p ∙ ap advanced (advanced-by-none p))
 
-    pub escape-goes-on : GoesOn limit n t q start at s (w .c) (at + w .width) (behindOf s (w .width))
-    unfolding bytes
-    escape-goes-on =
-        record {
-          is = λ full room h.
-              ap (cut full limit room n) two
-              ∙ cut-on full limit room n _ _ within
-              ∙ cut-adds full limit room n 0 [] _ refl h (omega arith)
-              ∙ rw (add-zero n) (cut-on full limit room n _ _ within);
-          body = ap bytes two;
-          low = read .low;
-          high = read .high;
-        }
+two-on : (at : ℕ) → at + 1 + 1 ≡ at + 2
+two-on at = omega arith
 
-  -- ---- a doubled terminator: one turn
-  module _ (x : Doubled-at t q at s w) where
-    abbrev p : Position
-    p = s .place
+-- the same by other names
+goes-as : {t : List ℕ} {q : ℕ} {start : Position} {limit n at d : ℕ} {s : State} {next next′ : ℕ} {r r′ : State}
+    → GoesOn limit n t q start at s d next r → next ≡ next′ → r ≡ r′ → GoesOn limit n t q start at s d next′ r′
+goes-as g e h = rw (← e, ← h) g
 
-    abbrev next : State
-    next = state (advanced (advanced p)) (orElse (s .first) (advanced (advanced p))) Empty 0
+abbrev pub unit : ℕ → ℕ → Position → ℕ → Unit
+unit c w p k = record { c = c; width = w; place = p; skip = k }
 
-    two-columns : advancedBy 2 p ≡ advanced (advanced p)
-    two-columns = advanced-by-more 1 p ∙ ap advanced (advanced-by-more 0 p ∙ ap advanced (advanced-by-none p))
+module _ (t : List ℕ) (q : ℕ) (here : Clear) where
+  abbrev p : Position
+  p = here .place
 
-    behind : next ≡ behindOf s 2
-    unfolding behindOf
-    behind = rw (x .kept, first-set (s .first) (advanced (advanced p)) (x .set), first-set (s .first) (advanced p) (x .set), two-columns)
+  abbrev f : Position
+  f = here .first
 
-    abbrev taken : takeOf t q start at (state p (s .first) Empty 0) ≡ got.Char q (cursor (at + 1) (advanced p))
-    taken = doubled-taken t q start (x .terminates) p (s .first) at (x .first)
+  -- a doubled terminator: one turn
+  module _ (i : Terminator-of q) (kept : here .skip ≡ 0) (set : isNone f ≡ false) (one : Stands-at t (here .at) q) (two : Stands-at t (here .at + 1) q) {w : Position} (e : w ≡ advancedBy 2 p) where
+    behind-both : state (advanced (advanced p)) (orElse f (advanced (advanced p))) Empty 0 ≡ state w (orElse f (advanced p)) Empty 0
+    behind-both = rw (e, two-columns p, first-set f (advanced (advanced p)) set, first-set f (advanced p) set)
 
-    abbrev acted : actOf isWhite t q start q (cursor (at + 1) (advanced p)) (state p (s .first) Empty 0) ≡ step.Go q (at + 1 + 1) next
-    acted = doubled-acted t q start (x .terminates) p (s .first) at (x .first) (x .second)
+    pub doubled-reads : Reads-anywhere t q here (unit q 2 w 0)
+    doubled-reads start limit within =
+        let x = once-on isWhite t q start (here .at) (state p f Empty 0) (doubled-taken t q start (terminates i) p f (here .at) (one .is)) (doubled-acted t q start (terminates i) p f (here .at) (one .is) (two .is)) in
+        rw kept (goes-as (once-goes t q start (here .at) (state p f Empty 0) limit (here .n) within x) (two-on (here .at)) behind-both)
 
-    further : at + 1 + 1 ≡ at + 2
-    further = omega arith
+  -- a whole escape: two turns
+  pub escape-reads : Terminator-of q → (q ≡ backtick → ⊥) → {x : Whole} → Whole-at t q (here .at) x → {w : Position} → w ≡ advancedBy (x .width) p
+      → (x .width ≡ 0 → ⊥) → Reads-anywhere t q here (unit (x .c) (x .width) w (here .skip))
+  escape-reads i n {x} y {w} e z start limit within =
+      rw e (twice-goes t q start (here .at) (stateOf here) limit (here .n) within (whole-twice isWhite t q start (escapes i n) p f (here .skip) (here .at) y z))
 
-    one : rest t q start at s ≡ checks (tooLongAt start (cursor (at + 1) (advanced p)) (once q)) (adds (encoded q) (rest t q start (at + 2) (behindOf s 2)))
-    one =
-        ap (λ (r : State). rest t q start at r) (settled s (record { empty = empty; all = x .kept }))
-        ∙ goes-on isWhite t q start at (state p (s .first) Empty 0) taken acted
-        ∙ rw (further, behind)
+  -- a backslash at the end of a line: two turns
+  pub continues-reads : q ≡ quote → Stands-at t (here .at) backslash → Stands-at t (here .at + 1) lf → (start : Position)
+      → {v w : Position} {k : ℕ} → v ≡ advancedBy 2 p → w ≡ lined v → k ≡ columnNumber start → Reads t q start here (unit nothing 2 w (k + 1))
+  unfolding columnOf
+  continues-reads h one two start e g c limit within =
+      rw (g, e, c, two-columns p)
+      (goes-as (twice-goes t q start (here .at) (stateOf here) limit (here .n) within (continues-twice isWhite t q start (quote-escapes h) p f (here .skip) (here .at) (one .is) h (two .is))) (two-on (here .at)) refl)
 
-    pub doubled-goes-on : GoesOn limit n t q start at s (w .c) (at + w .width) (behindOf s (w .width))
-    unfolding bytes
-    doubled-goes-on =
-        rw (x .is) (record {
-          is = λ full room h. ap (cut full limit room n) one ∙ cut-on full limit room n _ _ within;
-          body = ap bytes one;
-          low = rw further at (goes-low isWhite t q start at (state p (s .first) Empty 0) taken acted);
-          high = rw further at (goes-high isWhite t q start at (state p (s .first) Empty 0) taken acted);
-        })
+module _ (t : List ℕ) (here : Clear) where
+  -- in text, a CR before LF: two turns
+  pub feed-reads : Stands-at t (here .at) cr → Stands-at t (here .at + 1) lf → {v w : Position} → v ≡ advancedBy 2 (here .place) → w ≡ lined v
+      → Reads-anywhere t backtick here (unit lf 2 w (here .skip))
+  feed-reads one two e g start limit within =
+      rw (g, e, two-columns (here .place))
+      (goes-as (twice-goes t backtick start (here .at) (stateOf here) limit (here .n) within (feed-twice isWhite t start (here .place) (here .first) (here .skip) (here .at) (one .is) (two .is))) (two-on (here .at)) refl)
+
+  -- in text, `\$` before `{`: one turn
+  no-white : isWhite dollar ≡ false
+  unfolding isWhite
+  no-white = refl
+
+  pub sign-reads : Stands-at t (here .at) backslash → Stands-at t (here .at + 1) dollar → Stands-at t (here .at + 2) leftBrace → {w : Position} → w ≡ advanced (here .place)
+      → Reads-anywhere t backtick here (unit dollar 2 w 0)
+  sign-reads one two three e start limit within =
+      let brace : lookAt t (here .at + 1 + 1) ≡ Char leftBrace 1 = rw (two-on (here .at)) (three .is) in
+      rw e (goes-as (once-goes t backtick start (here .at) (stateOf here) limit (here .n) within (sign-once isWhite t start (here .place) (here .first) (here .skip) (here .at) (one .is) (two .is) brace no-white)) (two-on (here .at)) refl)

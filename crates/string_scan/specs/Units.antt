@@ -1,38 +1,51 @@
--- What stands for one character and is read at once: a whole escape, or a doubled terminator.
-use Prim.Native.Nat.{ℕ, _+_}
+-- What is read at once: a doubled terminator, a whole escape, a backslash at the end of a line, and in text a CR before LF and `\$` before `{`. Each adds one character or none.
+use Prim.Native.Nat.{ℕ, _+_, _<_}
 use mathlib.Core.Bool.{false}
 use mathlib.Core.List.{List}
+use mathlib.Core.Logic.{_⊎_}
 use mathlib.Core.Path.{_≡_}
+use lib.ListN.{length}
 use Rattle.position.specs.declared.Position.{Position}
-use Rattle.position.specs.Place.{isNone, orElse, advanced, advancedBy}
+use Rattle.position.specs.Place.{orElse, advanced}
 use Rattle.utf8.specs.Table.{lookAt}
 use Rattle.utf8.specs.declared.Look.the-variants.{Char}
-use Rattle.escape.specs.Whole.{whole, Whole-at}
-use Rattle.escape.specs.declared.Whole.{Whole}
+use Rattle.literal.specs.Trace.{passes}
+use Rattle.string_take.specs.Kinds.{quote, apostrophe, backtick}
 use Rattle.string_take.specs.Turns.{state}
 use Rattle.string_take.specs.declared.Pending.the-variants.{Empty}
 use Rattle.string_take.specs.declared.State.{State}
-use Rattle.string_reading.specs.Scans.{Escaping, Terminating}
 use Rattle.string_scan.specs.Limited.{GoesOn}
+use Rattle.string_scan.specs.declared.Clear.{Clear}
+use Rattle.string_scan.specs.declared.Stand.{Stand}
+use Rattle.string_scan.specs.declared.Unit.{Unit}
 
--- the literal has escapes, and one stands at the offset
-pub record Escape-at (t : List ℕ) (q at : ℕ) (w : Whole) : Type 0 where
-  pub has : Escaping q
-  pub is : Whole-at t q at w
+-- one of the three terminators
+abbrev pub Terminator-of : ℕ → Type 0
+Terminator-of q = (q ≡ quote) ⊎ (q ≡ apostrophe) ⊎ (q ≡ backtick)
 
--- the terminator stands there twice, the first place is set, and nothing is skipped
-pub record Doubled-at (t : List ℕ) (q at : ℕ) (s : State) (w : Whole) : Type 0 where
-  pub terminates : Terminating q
-  pub first : lookAt t at ≡ Char q 1
-  pub second : lookAt t (at + 1) ≡ Char q 1
-  pub set : isNone (s .first) ≡ false
-  pub kept : s .skip ≡ 0
-  pub is : w ≡ whole q 2
+-- a character of one byte stands at an offset
+pub record Stands-at (t : List ℕ) (at c : ℕ) : Type 0 where
+  pub inside : at < length t
+  pub is : lookAt t at ≡ Char c 1
 
--- the state behind it: so many columns on, the first place set, no escape pending, and the skipping goes on
-unfoldable pub behindOf : State → ℕ → State
-behindOf s w = state (advancedBy w (s .place)) (orElse (s .first) (advanced (s .place))) Empty (s .skip)
+-- the state of a scan with no escape pending, and where it stands
+abbrev pub stateOf : Clear → State
+stateOf here = state (here .place) (here .first) Empty (here .skip)
 
--- the reading goes on behind it with one character added, wherever the literal starts
-abbrev pub Unit-at : ℕ → ℕ → List ℕ → ℕ → ℕ → State → Whole → Type 0
-Unit-at limit n t q at s w = (start : Position) → GoesOn limit n t q start at s (w .c) (at + w .width) (behindOf s (w .width))
+abbrev pub clearOf : ℕ → State → ℕ → Clear
+clearOf at s n = record { at = at; place = s .place; first = s .first; skip = s .skip; n = n }
+
+abbrev pub standOf : Clear → Stand
+standOf here = record { at = here .at; state = stateOf here; n = here .n }
+
+-- the state behind what was read
+abbrev pub behindOf : Clear → Unit → State
+behindOf here u = state (u .place) (orElse (here .first) (advanced (here .place))) Empty (u .skip)
+
+-- within a limit, the reading of a literal goes on behind it with its character added
+abbrev pub Reads : List ℕ → ℕ → Position → Clear → Unit → Type 0
+Reads t q start here u = (limit : ℕ) → passes limit (here .n) ≡ false → GoesOn limit (here .n) t q start (here .at) (stateOf here) (u .c) (here .at + u .width) (behindOf here u)
+
+-- wherever the literal starts
+abbrev pub Reads-anywhere : List ℕ → ℕ → Clear → Unit → Type 0
+Reads-anywhere t q here u = (start : Position) → Reads t q start here u

@@ -2,20 +2,20 @@
 ghost use mathlib.Core.Bool.{true};
 ghost use mathlib.Core.Path.{_≡_};
 ghost use Prim.Native.Nat.{_-_, _≤_, _<_};
-ghost use lib.ListN.{length, take, drop};
+ghost use lib.ListN.{length, getD, take, drop};
 ghost use Rattle.basis.specs.Store.{stored};
 ghost use Rattle.white.specs.White.{isWhite};
 ghost use Rattle.utf8.specs.Encode.{encoded};
 ghost use Rattle.literal.specs.Cut.{cut};
 ghost use Rattle.literal.specs.declared.Scanned.the-variants.{Refused};
+ghost use Rattle.string_take.specs.Kinds.{cr, backtick, backslash};
 ghost use Rattle.string_reading.specs.Ends.{tooLongAt, fullAt, lastOf};
-ghost use Rattle.string_reading.specs.Scans.{begun, readingOf, Terminating};
+ghost use Rattle.string_reading.specs.Scans.{begun, readingOf};
 ghost use Rattle.string_scan.specs.Limited.{Answers, Tells};
 ghost use Rattle.string_scan.specs.Kept.{Kept};
-ghost use Rattle.string_scan.specs.Units.{Escape-at, Doubled-at, Unit-at, behindOf};
-ghost use Rattle.string_scan.specs.Standing.{Leads};
+ghost use Rattle.string_scan.specs.Units.{Terminator-of, Stands-at, clearOf, standOf, Reads, Reads-anywhere};
+ghost use Rattle.string_scan.specs.Standing.{Leads, Leads-anywhere};
 use chars::cursor::Cursor;
-use escape::Whole;
 use fault::Fault;
 use fault::Part;
 use literal::Refusal;
@@ -27,18 +27,23 @@ use string_take::Got;
 use string_take::Last;
 use string_take::Pending;
 use string_take::State;
+use string_take::Stood;
+
+const LF: u32 = 0x0A;
+
+const CR: u32 = 0x0D;
 
 const QUOTE: u32 = 0x22;
 
+const DOLLAR: u32 = 0x24;
+
 const APOSTROPHE: u32 = 0x27;
+
+const BACKSLASH: u32 = 0x5C;
 
 const BACKTICK: u32 = 0x60;
 
-// Nothing was read at once.
-const NONE: Whole = Whole {
-    c: escape::NOTHING,
-    width: 0,
-};
+const LEFT_BRACE: u32 = 0x7B;
 
 // Where a scan stands: the offset, the state, and the length of the body so far.
 struct Stand {
@@ -46,6 +51,31 @@ struct Stand {
     state: State,
     n: usize,
 }
+
+// The same with no escape pending. Reading ahead keeps to these: the state's enum would be written and read back at each step.
+struct Clear {
+    at: usize,
+    place: Position,
+    first: Position,
+    skip: usize,
+    n: usize,
+}
+
+// What is read at once and adds one character or none: its bytes, the place behind it, and below which column white space is skipped
+// there. It has no byte where nothing is read.
+struct Unit {
+    c: u32,
+    width: usize,
+    place: Position,
+    skip: usize,
+}
+
+const NONE: Unit = Unit {
+    c: escape::NOTHING,
+    width: 0,
+    place: Position::NONE,
+    skip: 0,
+};
 
 // A turn under a limit: as Step, or the answer.
 enum Turned {
@@ -122,21 +152,8 @@ fn answered(start: Position, limit: usize, n: usize, last: Last) -> Scanned
     }
 }
 
-// The escape at an offset, read at once in a literal that has escapes.
-fn escape_at(text: &[u8], q: u32, at: usize) -> Whole
-    ensures { λ r. ⌜ ((r .width ≡ 0 → ⊥) → Escape-at (now (text .entry)) q at r) ⌝ }
-{
-    if q == QUOTE {
-        return escape::whole_at(text, q, at);
-    }
-    if q == APOSTROPHE {
-        return escape::whole_at(text, q, at);
-    }
-    NONE
-}
-
 fn is_terminator(q: u32) -> bool
-    ensures { λ r. ⌜ (r ≡ true → Terminating q) ⌝ }
+    ensures { λ r. ⌜ (r ≡ true → Terminator-of q) ⌝ }
 {
     if q == QUOTE {
         return true;
@@ -147,67 +164,127 @@ fn is_terminator(q: u32) -> bool
     q == BACKTICK
 }
 
-// A doubled terminator at an offset, where the first place is set and no white space is skipped.
-fn doubled_at(text: &[u8], q: u32, at: usize, s: State) -> Whole
-    ensures { λ r. ⌜ ((r .width ≡ 0 → ⊥) → Doubled-at (now (text .entry)) q at s r) ⌝ }
+// The byte at an offset; at the end 0, which no rule names.
+fn byte_at(text: &[u8], at: usize) -> u32
+    ensures { λ r. ⌜ r ≡ getD (now (text .entry)) at 0 ⌝ }
 {
-    if 0 < s.skip {
+    if at < text.len() {
+        return text[at] as u32;
+    }
+    0
+}
+
+// A doubled terminator gives itself, where the first place is set and no white space is skipped.
+fn doubled(text: &[u8], q: u32, here: Clear) -> Unit
+    requires { ⌜ Terminator-of q × Stands-at (now text) (here .at) q ⌝ }
+    ensures { λ r. ⌜ ((r .width ≡ 0 → ⊥) → Reads-anywhere (now (text .entry)) q here r) ⌝ }
+{
+    if 0 < here.skip {
         return NONE;
     }
-    let first = s.first;
+    let first = here.first;
     if first.is_none() {
         return NONE;
     }
-    if text.len() <= at {
-        return NONE;
-    }
-    if text[at] as u32 != q {
-        return NONE;
-    }
-    if text.len() - at < 2 {
-        return NONE;
-    }
-    if text[at + 1] as u32 != q {
-        return NONE;
-    }
-    if is_terminator(q) {
-        return Whole { c: q, width: 2 };
+    if byte_at(text, here.at + 1) == q {
+        return Unit {
+            c: q,
+            width: 2,
+            place: here.place.advanced_by(2),
+            skip: 0,
+        };
     }
     NONE
 }
 
-// What stands at an offset for one character and is read at once, within the limit and with no escape pending: a doubled terminator,
-// or an escape.
-fn unit_at(text: &[u8], q: u32, limit: usize, n: usize, at: usize, s: State) -> Whole
-    ensures { λ r. ⌜ ((r .width ≡ 0 → ⊥) → Unit-at limit n (now (text .entry)) q at s r) ⌝ }
+// In text, a CR before LF vanishes.
+fn feed(text: &[u8], here: Clear) -> Unit
+    requires { ⌜ Stands-at (now text) (here .at) cr ⌝ }
+    ensures { λ r. ⌜ ((r .width ≡ 0 → ⊥) → Reads-anywhere (now (text .entry)) backtick here r) ⌝ }
 {
-    if literal::is_over(limit, n) {
+    if byte_at(text, here.at + 1) == LF {
+        return Unit {
+            c: LF,
+            width: 2,
+            place: here.place.advanced_by(2).lined(),
+            skip: here.skip,
+        };
+    }
+    NONE
+}
+
+// In text, `\$` before `{` gives `$`, one column for both.
+fn sign(text: &[u8], here: Clear) -> Unit
+    requires { ⌜ Stands-at (now text) (here .at) backslash ⌝ }
+    ensures { λ r. ⌜ ((r .width ≡ 0 → ⊥) → Reads-anywhere (now (text .entry)) backtick here r) ⌝ }
+{
+    if byte_at(text, here.at + 1) == DOLLAR {
+        if byte_at(text, here.at + 2) == LEFT_BRACE {
+            return Unit {
+                c: DOLLAR,
+                width: 2,
+                place: here.place.advanced(),
+                skip: 0,
+            };
+        }
         return NONE;
     }
-    let pending = s.escape;
-    match pending {
-        Pending::Backslash(_) => NONE,
-        Pending::Empty => {
-            let doubled = doubled_at(text, q, at, s);
-            if doubled.width != 0 {
-                return doubled;
-            }
-            escape_at(text, q, at)
+    NONE
+}
+
+// A backslash, but in text: an ordinary literal goes on behind the end of a line, where white space up to the start's column is
+// skipped; else a whole escape.
+fn escaped(text: &[u8], q: u32, start: Position, here: Clear) -> Unit
+    requires { ⌜ Terminator-of q × (q ≡ backtick → ⊥) × Stands-at (now text) (here .at) backslash ⌝ }
+    ensures { λ r. ⌜ ((r .width ≡ 0 → ⊥) → Reads (now (text .entry)) q start here r) ⌝ }
+{
+    if byte_at(text, here.at + 1) == LF {
+        if q == QUOTE {
+            return Unit {
+                c: escape::NOTHING,
+                width: 2,
+                place: here.place.advanced_by(2).lined(),
+                skip: start.column_number() as usize + 1,
+            };
         }
+        return NONE;
+    }
+    let whole = escape::whole_at(text, q, here.at);
+    let skip = here.skip;
+    Unit {
+        c: whole.c,
+        width: whole.width,
+        place: here.place.advanced_by(whole.width),
+        skip,
     }
 }
 
-// The state behind what was read at once: a column on for each of its characters.
-fn behind(s: State, width: usize) -> State
-    ensures { λ r. ⌜ r ≡ behindOf s width ⌝ }
+// What is read at once where a scan stands.
+fn unit_at(text: &[u8], q: u32, start: Position, here: Clear) -> Unit
+    requires { ⌜ Terminator-of q ⌝ }
+    ensures { λ r. ⌜ ((r .width ≡ 0 → ⊥) → Reads (now (text .entry)) q start here r) ⌝ }
 {
-    let place = s.place;
-    State {
-        place: place.advanced_by(width),
-        first: s.first.or_else(place.advanced()),
-        escape: Pending::Empty,
-        skip: s.skip,
+    let at = here.at;
+    if text.len() <= at {
+        return NONE;
     }
+    let b = text[at] as u32;
+    if b == q {
+        return doubled(text, q, here);
+    }
+    if q == BACKTICK {
+        if b == CR {
+            return feed(text, here);
+        }
+        if b == BACKSLASH {
+            return sign(text, here);
+        }
+        return NONE;
+    }
+    if b == BACKSLASH {
+        return escaped(text, q, start, here);
+    }
+    NONE
 }
 
 // A turn with n bytes in the body: the limit is tested between taking a character and acting on it.
@@ -257,35 +334,160 @@ fn copy(text: &[u8], at: usize, to: usize, out: &mut [u8], n: usize)
     }
 }
 
-// Reads plain characters, doubled terminators and whole escapes at once, as far as neither the limit nor the room is in the way.
-fn ahead(text: &[u8], q: u32, limit: usize, room: usize, from: Stand, out: &mut [u8]) -> Stand
-    requires { ⌜ from .n ≤ room ⌝ }
-    ensures { λ r. ⌜ Leads (now (text .entry)) q limit room from (now (out .entry)) r (now (out .exit)) ⌝ }
+// Reads a unit, if one stands here and neither the limit nor the room is in the way.
+fn add_unit(
+    text: &[u8],
+    q: u32,
+    start: Position,
+    limit: usize,
+    room: usize,
+    here: Clear,
+    out: &mut [u8],
+) -> Clear
+    requires { ⌜ Terminator-of q × (here .n ≤ room) ⌝ }
+    ensures { λ r. ⌜ Leads (now (text .entry)) q start limit room (standOf here) (now (out .entry)) (standOf r) (now (out .exit)) ⌝ }
 {
-    let mut at = from.at;
-    let mut s = from.state;
-    let mut n = from.n;
-    loop {
-        let most = literal::most(limit, room, n);
-        let stood = string_take::pass(text, q, most, at, s);
-        copy(text, at, stood.at, &mut *out, n);
-        n += stood.at - at;
-        at = stood.at;
-        s = stood.state;
-        let whole = unit_at(text, q, limit, n, at, s);
-        let width = whole.width;
-        if width == 0 {
-            return Stand { at, state: s, n };
-        }
-        let m = size(whole.c);
-        if room - n < m {
-            return Stand { at, state: s, n };
-        }
-        encoder::put(whole.c, &mut *out, n);
-        n += m;
-        at += width;
-        s = behind(s, width);
+    let n = here.n;
+    let left = room - n;
+    if literal::is_over(limit, here.n) {
+        return here;
     }
+    let unit = unit_at(text, q, start, here);
+    let width = unit.width;
+    if width == 0 {
+        return here;
+    }
+    let m = size(unit.c);
+    if left < m {
+        return here;
+    }
+    encoder::put(unit.c, out, n);
+    let first = here.first.or_else(here.place.advanced());
+    let place = unit.place;
+    Clear {
+        at: here.at + width,
+        place,
+        first,
+        skip: unit.skip,
+        n: n + m,
+    }
+}
+
+// Reads what turns would only take and add, as far as neither the limit nor the room is in the way.
+fn add_stretch(text: &[u8], q: u32, limit: usize, room: usize, here: Clear, out: &mut [u8]) -> Clear
+    requires { ⌜ Terminator-of q × (here .n ≤ room) ⌝ }
+    ensures { λ r. ⌜ Leads-anywhere (now (text .entry)) q limit room (standOf here) (now (out .entry)) (standOf r) (now (out .exit)) ⌝ }
+{
+    if here.skip != 0 {
+        return here;
+    }
+    let at = here.at;
+    let place = here.place;
+    let first = here.first;
+    let n = here.n;
+    let most = literal::most(limit, room, n);
+    let stood = string_take::pass(text, q, most, Stood { at, place, first });
+    let to = stood.at;
+    copy(text, at, to, out, n);
+    let place = stood.place;
+    let first = stood.first;
+    Clear {
+        at: to,
+        place,
+        first,
+        skip: 0,
+        n: n + (to - at),
+    }
+}
+
+// Reads units and stretches, one behind the other, as long as there are any.
+fn ahead(
+    text: &[u8],
+    q: u32,
+    start: Position,
+    limit: usize,
+    room: usize,
+    from: Clear,
+    out: &mut [u8],
+) -> Clear
+    requires { ⌜ Terminator-of q × (from .n ≤ room) ⌝ }
+    ensures { λ r. ⌜ Leads (now (text .entry)) q start limit room (standOf from) (now (out .entry)) (standOf r) (now (out .exit)) ⌝ }
+{
+    let mut here = from;
+    loop {
+        let next = add_unit(text, q, start, limit, room, here, &mut *out);
+        if next.at == here.at {
+            let last = add_stretch(text, q, limit, room, next, &mut *out);
+            if last.at == next.at {
+                return last;
+            }
+            here = last;
+        } else {
+            here = next;
+        }
+    }
+}
+
+// Where a scan stands, without the escape of its state, and with none.
+fn cleared(at: usize, s: State, n: usize) -> Clear
+    ensures { λ r. ⌜ r ≡ clearOf at s n ⌝ }
+{
+    let place = s.place;
+    let first = s.first;
+    Clear {
+        at,
+        place,
+        first,
+        skip: s.skip,
+        n,
+    }
+}
+
+fn standing(here: Clear) -> Stand
+    ensures { λ r. ⌜ r ≡ standOf here ⌝ }
+{
+    let place = here.place;
+    let first = here.first;
+    let state = State {
+        place,
+        first,
+        escape: Pending::Empty,
+        skip: here.skip,
+    };
+    Stand {
+        at: here.at,
+        state,
+        n: here.n,
+    }
+}
+
+// Reads ahead, unless an escape is pending.
+fn lead(
+    text: &[u8],
+    q: u32,
+    start: Position,
+    limit: usize,
+    room: usize,
+    from: Stand,
+    out: &mut [u8],
+) -> Stand
+    requires { ⌜ from .n ≤ room ⌝ }
+    ensures { λ r. ⌜ Leads (now (text .entry)) q start limit room from (now (out .entry)) r (now (out .exit)) ⌝ }
+{
+    if is_terminator(q) {
+        let s = from.state;
+        let pending = s.escape;
+        match pending {
+            Pending::Backslash(_) => {
+                return from;
+            }
+            Pending::Empty => {
+                let here = cleared(from.at, s, from.n);
+                return standing(ahead(text, q, start, limit, room, here, out));
+            }
+        }
+    }
+    from
 }
 
 // Inner: the scan of a literal whose start is the cursor's place: how it ends and the length of the body, within a limit and a
@@ -300,7 +502,15 @@ pub fn scan(text: &[u8], from: Cursor, q: u32, limit: usize, room: usize, out: &
     let mut s = begun(start);
     let mut n = 0;
     loop {
-        let stand = ahead(text, q, limit, room, Stand { at, state: s, n }, &mut *out);
+        let stand = lead(
+            text,
+            q,
+            start,
+            limit,
+            room,
+            Stand { at, state: s, n },
+            &mut *out,
+        );
         at = stand.at;
         s = stand.state;
         n = stand.n;

@@ -1,4 +1,4 @@
--- Characters of a string literal, passed at once: those that a turn would take, add, and do nothing else with.
+-- Characters of a string literal, passed at once: those that a turn would take, add, and do nothing else with. They are passed where no escape is pending and nothing is skipped.
 use Prim.Native.Nat.{ℕ, _+_}
 use mathlib.Core.Bool.{false}
 use mathlib.Core.List.{List}
@@ -16,11 +16,6 @@ use Rattle.string_take.specs.declared.Pending.the-variants.{Empty}
 use Rattle.string_take.specs.declared.State.{State}
 use Rattle.string_take.specs.declared.Stood.{Stood}
 
--- no escape is pending, and nothing is skipped
-pub record Settled (s : State) : Type 0 where
-  pub empty : s .escape ≡ Empty
-  pub all : s .skip ≡ 0
-
 -- neither the terminator nor a character that the rules name
 abbrev pub Plain : ℕ → ℕ → Type 0
 Plain q c = Other q backslash dollar lf cr c
@@ -36,15 +31,21 @@ pub data Added (t : List ℕ) (at : ℕ) : ℕ → Type 0 where
 unfoldable pub placeBehind : ℕ → Position → Position
 placeBehind c p = pick (eqb c lf) (lined (advanced p)) (advanced p)
 
--- where a scan stands
-abbrev pub stood : ℕ → State → Stood
-stood at s = record { at = at; state = s }
+-- where a scan stands: an offset, the place, and the first place
+abbrev pub stood : ℕ → Position → Position → Stood
+stood at p f = record { at = at; place = p; first = f }
 
--- nothing was passed; or, in a settled state, plain characters; or, in text, one that is only added; or one thing and then another
-pub data Passes (t : List ℕ) (q : ℕ) : ℕ → State → Stood → Type 0 where
-  none : {at : ℕ} {s : State} → Passes t q at s (stood at s)
-  some : {at k b : ℕ} {s r : State} → Settled s → Stretch t (Plain q) at k b → (k ≡ 0 → ⊥)
-      → r ≡ state (advancedBy k (s .place)) (orElse (s .first) (advanced (s .place))) Empty 0 → Passes t q at s (stood b r)
-  one : {at c : ℕ} {s r : State} → Settled s → q ≡ backtick → lookAt t at ≡ Char c 1 → Added t (at + 1) c
-      → r ≡ state (placeBehind c (s .place)) (orElse (s .first) (advanced (s .place))) Empty 0 → Passes t q at s (stood (at + 1) r)
-  then : {at : ℕ} {s : State} {u r : Stood} → Passes t q at s u → Passes t q (u .at) (u .state) r → Passes t q at s r
+-- its state: no escape is pending, and nothing is skipped
+abbrev pub stateOf : Stood → State
+stateOf u = state (u .place) (u .first) Empty 0
+
+-- the first place, behind one character at least
+abbrev pub firstOf : Stood → Position
+firstOf u = orElse (u .first) (advanced (u .place))
+
+-- nothing was passed; or plain characters; or, in text, one that is only added; or one thing and then another
+pub data Passes (t : List ℕ) (q : ℕ) : Stood → Stood → Type 0 where
+  none : {u : Stood} → Passes t q u u
+  some : {u : Stood} {k b : ℕ} → Stretch t (Plain q) (u .at) k b → (k ≡ 0 → ⊥) → Passes t q u (stood b (advancedBy k (u .place)) (firstOf u))
+  one : {u : Stood} {c : ℕ} → q ≡ backtick → lookAt t (u .at) ≡ Char c 1 → Added t (u .at + 1) c → Passes t q u (stood (u .at + 1) (placeBehind c (u .place)) (firstOf u))
+  then : {u v r : Stood} → Passes t q u v → Passes t q v r → Passes t q u r

@@ -5,7 +5,7 @@ ghost use Prim.Native.Nat.{_+_, _≤_, _<_};
 ghost use Rattle.string_take.specs.Kinds.{backtick, isVerbatim, isContinued, isInterpolated};
 ghost use Rattle.string_take.specs.Endings.{once, ending, unterminatedAt};
 ghost use Rattle.string_take.specs.Turns.{isEmpty, nextIs, endOf, dollarOf, takeOf};
-ghost use Rattle.string_take.specs.Passing.{Settled, Added, placeBehind, Passes};
+ghost use Rattle.string_take.specs.Passing.{Added, placeBehind, Passes};
 use chars::cursor::Cursor;
 use chars::cursor::Taken;
 use fault::Fault;
@@ -50,10 +50,11 @@ pub enum Last {
     Bad(Refusal),
 }
 
-// Where a scan stands between two turns.
+// Where a scan stands with no escape pending and no white space to skip.
 pub struct Stood {
     pub at: usize,
-    pub state: State,
+    pub place: Position,
+    pub first: Position,
 }
 
 // The character of a turn and the cursor behind it, or how the scan is over.
@@ -200,45 +201,21 @@ pub fn take(text: &[u8], q: u32, start: Position, at: usize, s: State) -> Got
     Got::Char(c, here)
 }
 
-// No escape is pending and no white space is skipped.
-fn is_settled(s: State) -> bool
-    ensures { λ r. ⌜ (r ≡ true → Settled s) ⌝ }
+// Passes all but the terminator, a backslash, `$`, LF and CR, in `most` bytes at the most.
+fn stretch(text: &[u8], q: u32, most: usize, from: Stood) -> Stood
+    requires { ⌜ q < 0x80 ⌝ }
+    ensures { λ r. ⌜ Passes (now (text .entry)) q from r ⌝ }
+    ensures { λ r. ⌜ r .at ≤ from .at + most ⌝ }
 {
-    if 0 < s.skip {
-        return false;
-    }
-    let escape = s.escape;
-    escape.is_empty()
-}
-
-// Passes all but the terminator, a backslash, `$`, LF and CR, in `most` bytes at the most. What is read at once often stands side by
-// side, so the first character is looked at before the stretch is begun.
-fn stretch(text: &[u8], q: u32, most: usize, at: usize, s: State) -> Stood
-    requires { ⌜ Settled s × (q < 0x80) ⌝ }
-    ensures { λ r. ⌜ Passes (now (text .entry)) q at s r ⌝ }
-    ensures { λ r. ⌜ r .at ≤ at + most ⌝ }
-{
-    if next_is(text, at, BACKSLASH) {
-        return Stood { at, state: s };
-    }
-    if next_is(text, at, q) {
-        return Stood { at, state: s };
-    }
-    let passed = chars::passing::pass(text, at, most, q, BACKSLASH, DOLLAR, LF, CR);
+    let passed = chars::passing::pass(text, from.at, most, q, BACKSLASH, DOLLAR, LF, CR);
     if passed.count == 0 {
-        return Stood { at, state: s };
+        return from;
     }
-    let place = s.place.advanced_by(passed.count);
-    let first = s.first.or_else(s.place.advanced());
-    let state = State {
-        place,
-        first,
-        escape: Pending::Empty,
-        skip: 0,
-    };
+    let place = from.place;
     Stood {
         at: passed.at,
-        state,
+        place: place.advanced_by(passed.count),
+        first: from.first.or_else(place.advanced()),
     }
 }
 
@@ -273,71 +250,62 @@ fn place_behind(c: u32, p: Position) -> Position
 }
 
 // In text, passes a character that ended a stretch, if a turn only adds it, and the stretch behind it.
-fn pass_one(text: &[u8], most: usize, at: usize, s: State) -> Stood
-    requires { ⌜ Settled s × (0 < most) ⌝ }
-    ensures { λ r. ⌜ Passes (now (text .entry)) backtick at s r ⌝ }
-    ensures { λ r. ⌜ r .at ≤ at + most ⌝ }
+fn pass_one(text: &[u8], most: usize, from: Stood) -> Stood
+    requires { ⌜ 0 < most ⌝ }
+    ensures { λ r. ⌜ Passes (now (text .entry)) backtick from r ⌝ }
+    ensures { λ r. ⌜ r .at ≤ from .at + most ⌝ }
 {
+    let at = from.at;
     if text.len() <= at {
-        return Stood { at, state: s };
+        return from;
     }
     let c = text[at] as u32;
     let end = at + 1;
     if is_added(text, c, end) {
         let passed = chars::passing::pass(text, end, most - 1, BACKTICK, BACKSLASH, DOLLAR, LF, CR);
-        let behind = place_behind(c, s.place);
-        let place = behind.advanced_by(passed.count);
-        let first = s.first.or_else(s.place.advanced());
-        let state = State {
-            place,
-            first,
-            escape: Pending::Empty,
-            skip: 0,
-        };
+        let place = from.place;
+        let behind = place_behind(c, place);
         return Stood {
             at: passed.at,
-            state,
+            place: behind.advanced_by(passed.count),
+            first: from.first.or_else(place.advanced()),
         };
     }
-    Stood { at, state: s }
+    from
 }
 
 // In text, passes all that turns only add, behind a stretch.
-fn pass_on(text: &[u8], most: usize, from: usize, begin: State) -> Stood
-    requires { ⌜ Settled begin ⌝ }
-    ensures { λ r. ⌜ Passes (now (text .entry)) backtick from begin r ⌝ }
-    ensures { λ r. ⌜ r .at ≤ from + most ⌝ }
+fn pass_on(text: &[u8], most: usize, from: Stood) -> Stood
+    ensures { λ r. ⌜ Passes (now (text .entry)) backtick from r ⌝ }
+    ensures { λ r. ⌜ r .at ≤ from .at + most ⌝ }
 {
-    let mut at = from;
-    let mut s = begin;
+    let mut here = from;
     let mut left = most;
     while 0 < left {
-        let next = pass_one(text, left, at, s);
-        if next.at == at {
+        let next = pass_one(text, left, here);
+        let passed = next.at - here.at;
+        if passed == 0 {
             return next;
         }
-        left -= next.at - at;
-        at = next.at;
-        s = next.state;
+        left -= passed;
+        here = next;
     }
-    Stood { at, state: s }
+    here
 }
 
-// Inner: passes at once what turns would only take and add, in `most` bytes at the most, with no escape pending and no white
-// space to skip. The terminators are ASCII; by any other number nothing is passed.
-pub fn pass(text: &[u8], q: u32, most: usize, at: usize, s: State) -> Stood
-    ensures { λ r. ⌜ Passes (now (text .entry)) q at s r ⌝ }
-    ensures { λ r. ⌜ r .at ≤ at + most ⌝ }
+// Inner: passes at once what turns would only take and add, in `most` bytes at the most, for a terminator, which is ASCII. Most
+// stretches end at the terminator, so that is looked for first.
+pub fn pass(text: &[u8], q: u32, most: usize, from: Stood) -> Stood
+    requires { ⌜ q < 0x80 ⌝ }
+    ensures { λ r. ⌜ Passes (now (text .entry)) q from r ⌝ }
+    ensures { λ r. ⌜ r .at ≤ from .at + most ⌝ }
 {
-    if 0x7F < q {
-        return Stood { at, state: s };
+    if next_is(text, from.at, q) {
+        return from;
     }
-    if is_settled(s) {
-        let near = stretch(text, q, most, at, s);
-        if is_verbatim(q) {
-            return pass_on(text, most - (near.at - at), near.at, near.state);
-        }
-        return near;
+    let near = stretch(text, q, most, from);
+    if is_verbatim(q) {
+        return pass_on(text, most - (near.at - from.at), near);
     }
-    Stood { at, state: s }
+    near
 }

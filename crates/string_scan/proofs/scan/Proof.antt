@@ -2,7 +2,7 @@
 use Prim.Native.Nat.{ℕ, _+_, _-_, _≤_, _<_}
 use native.Mathlib.Omega.{arith}
 use mathlib.Core.List.{List}
-use mathlib.Core.Path.{_∙_}
+use mathlib.Core.Path.{refl, _∙_}
 use lib.ListN.{length}
 use borrow.Author.Needs.{needs}
 use Rattle.string_scan.specs.Standing.{Measured, Written}
@@ -19,7 +19,7 @@ abbrev μ-loop : tie.MeasureT-loop
 μ-loop text from q limit room out₀ start at₀ s₀ n₀ out at s n = length text - at
 
 -- behind what was read ahead
-module _ (k : tie.After-ahead Inv-loop μ-loop) where
+module _ (k : tie.After-lead Inv-loop μ-loop) where
   abbrev top : tie.At-loop Inv-loop μ-loop
   top = k .before .before
 
@@ -27,20 +27,20 @@ module _ (k : tie.After-ahead Inv-loop μ-loop) where
   begin = top .before .before .before .before .before
 
   abbrev there : Stand
-  there = k .ahead .result
+  there = k .lead .result
 
   abbrev memory : List ℕ
-  memory = k .ahead .last .1 .1 .1 .1 .1 .0
+  memory = k .lead .last .1 .1 .1 .1 .1 .1 .0
 
   stands : Measured (begin .args .text .now) (begin .args .from) (begin .args .q) (begin .args .limit) (begin .args .room) (there .at) (there .state) (there .n)
-  stands = k .ahead .ensures .measured (begin .args .from) (top .loop .inv .0)
+  stands = k .lead .ensures .measured (begin .args .from) refl (top .loop .inv .0)
 
   wrote : Written (begin .args .text .now) (begin .args .q) (begin .args .from) (begin .args .out .now) memory (there .at) (there .state) (there .n)
-  wrote = k .ahead .ensures .written (begin .args .from) (begin .args .out .now) (top .loop .inv .1)
+  wrote = k .lead .ensures .written (begin .args .from) refl (begin .args .out .now) (top .loop .inv .1)
 
 -- and behind the turn
 module _ (k : tie.After-turn Inv-loop μ-loop) where
-  abbrev read : tie.After-ahead Inv-loop μ-loop
+  abbrev read : tie.After-lead Inv-loop μ-loop
   read = k .before .before .before .before
 
 returns : tie.Need-returns Inv-loop μ-loop
@@ -78,7 +78,7 @@ loop-less : tie.Need-loop-less Inv-loop μ-loop
 loop-less c =
     let size = c .before .before .before .before .before in
     let k = read (turned size) in
-    omega (arith, measured-less _ _ _ _ _ (stands k) (turned size .turn .ensures) (found size .d .given .1), k .ahead .ensures .low)
+    omega (arith, measured-less _ _ _ _ _ (stands k) (turned size .turn .ensures) (found size .d .given .1), k .lead .ensures .low)
 
 loop-again : tie.Need-loop-again Inv-loop μ-loop
 loop-again c =

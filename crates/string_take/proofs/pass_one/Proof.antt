@@ -10,13 +10,14 @@ use Rattle.string_take.proofs.pass_one.Tie as tie
 returns-2 : tie.Need-returns-2
 returns-2 c =
     let column = c .before .before in
-    let call = column .before .before in
+    let behind = column .before in
+    let call = behind .before .before in
     let test = call .before in
     let asked = test .before in
     let inside = asked .before .before in
     let begin = inside .before .before in (
-      one-passed _ _ _ (begin .pre .0) (omega (arith, inside .if1 .left)) (asked .is-added .ensures) (test .if2 .taken) (call .pass .ensures .0) (column .before .place-behind .ensures) (column .advanced-by .ensures) (c .before .advanced .ensures) (c .or-else .ensures),
-      omega (arith, call .pass .ensures .1, begin .pre .1),
+      one-passed _ _ (omega (arith, inside .if1 .left)) (asked .is-added .ensures) (test .if2 .taken) (call .pass .ensures .0) (behind .place-behind .ensures) (column .advanced-by .ensures) (c .before .advanced .ensures) (c .or-else .ensures),
+      omega (arith, call .pass .ensures .1, begin .pre),
     )
 
 pub pass-one-spec : {M : Type 1} → statement M
@@ -25,7 +26,7 @@ pass-one-spec =
     (tie.spec
     (λ c. (none, omega arith))
     (λ c. search needs)
-    (λ c. omega (arith, c .shared-slice-known2 .given (c .before .before .before .args .at)))
+    (λ c. omega (arith, c .shared-slice-known2 .given (c .before .before .before .args .from .at)))
     (λ c. search needs)
     (λ c κs. search needs)
     (λ c. search needs)

@@ -7,17 +7,12 @@ use Rattle.string_take.proofs.Passing.{passed}
 use Rattle.string_take.proofs.stretch.Statement.{statement}
 use Rattle.string_take.proofs.stretch.Tie as tie
 
--- what was passed
-module _ (k : tie.After-pass) where
-  abbrev begin : tie.Start
-  begin = k .before .before .before .before .before .before
-
-returns-4 : tie.Need-returns-4
-returns-4 c =
+returns-2 : tie.Need-returns-2
+returns-2 c =
     let column = c .before .before in
-    let some = column .before in
+    let some = column .before .before in
     let call = some .before .before in (
-      passed _ _ _ _ (begin call .pre .0) (call .pass .ensures .0) (some .if3 .left) (column .advanced-by .ensures) (c .before .advanced .ensures) (c .or-else .ensures),
+      passed _ _ _ (call .pass .ensures .0) (some .if1 .left) (column .advanced-by .ensures) (c .before .advanced .ensures) (c .or-else .ensures),
       call .pass .ensures .1,
     )
 
@@ -28,10 +23,6 @@ stretch-spec =
     (λ c κs. search needs)
     (λ c. (none, omega arith))
     (λ c κs. search needs)
-    (λ c. (none, omega arith))
-    (λ c κs. search needs)
-    (λ c. (none, omega arith))
     (λ c κs. search needs)
     (λ c κs. search needs)
-    (λ c κs. search needs)
-    returns-4)
+    returns-2)
