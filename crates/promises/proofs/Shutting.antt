@@ -4,6 +4,7 @@ use native.Mathlib.Omega.{arith}
 use mathlib.Core.List.{List, [], _∷_, _++_}
 use mathlib.Core.Path.{_≡_, refl, sym, ap, _∙_}
 use lib.ListN.{getD}
+use Rattle.position.specs.declared.Position.{Position}
 use Rattle.position.specs.Place.{start}
 use Rattle.position.proofs.Moves.{start-on}
 use Rattle.utf8.specs.Table.{look, wellFrom, well}
@@ -46,10 +47,10 @@ module _ (w : Writer) (s : Scanner) (demand : Reads-back w s) where
   refuses-all : Refuses-all s → ⊥
   refuses-all h = h (text []) 1 start 0 buffer (ap (λ (t : Told). t .number) (none-back .is-told))
 
-  fixed-body : (body : List ℕ) → Fixed-body s body → ⊥
+  fixed-body : (body : ℕ → Position → ℕ → List ℕ → List ℕ) → Fixed-body s body → ⊥
   fixed-body body h = apart (sym (a-back .is-left) ∙ h (text (0x61 ∷ [])) 1 start 0 buffer ∙ sym (h (text (0x62 ∷ [])) 1 start 0 buffer) ∙ b-back .is-left)
 
-  invents-count : (count : ℕ → ℕ) → Invents-count s count → ⊥
+  invents-count : (count : ℕ → Position → ℕ → List ℕ → ℕ) → Invents-count s count → ⊥
   unfolding hashesAhead mostAfterQuote hashesFor literalOf
   invents-count count h =
       let a = ap (λ (t : Told). t .cursor .at) (none-back .is-told) in

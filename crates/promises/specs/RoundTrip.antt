@@ -124,14 +124,14 @@ Stands-anywhere = (body before after : List ℕ) → Utf8 body → Utf8 before �
 abbrev pub Refuses-all : Scanner → Type 0
 Refuses-all s = (text : List ℕ) (at : ℕ) (start : Position) (limit : ℕ) (buffer : List ℕ) → told (s .answers text at start limit buffer) .number ≡ 0 → ⊥
 
--- one that has a fixed body: by is-left, of two bodies
-abbrev pub Fixed-body : Scanner → List ℕ → Type 0
-Fixed-body s body = (text : List ℕ) (at : ℕ) (start : Position) (limit : ℕ) (buffer : List ℕ) → s .leaves text at start limit buffer ≡ over body buffer
+-- one that has a fixed body, which may depend on everything but the text: by is-left, of two bodies
+abbrev pub Fixed-body : Scanner → (ℕ → Position → ℕ → List ℕ → List ℕ) → Type 0
+Fixed-body s body = (text : List ℕ) (at : ℕ) (start : Position) (limit : ℕ) (buffer : List ℕ) → s .leaves text at start limit buffer ≡ over (body at start limit buffer) buffer
 
--- one that invents how many bytes it used, knowing where it was entered and not the text: by the offset of is-told, of two bodies
-abbrev pub Invents-count : Scanner → (ℕ → ℕ) → Type 0
+-- one that invents how many bytes it used, knowing everything but the text: by the offset of is-told, of two bodies
+abbrev pub Invents-count : Scanner → (ℕ → Position → ℕ → List ℕ → ℕ) → Type 0
 Invents-count s count =
-    (text : List ℕ) (at : ℕ) (start : Position) (limit : ℕ) (buffer : List ℕ) → told (s .answers text at start limit buffer) .cursor .at ≡ at + count at
+    (text : List ℕ) (at : ℕ) (start : Position) (limit : ℕ) (buffer : List ℕ) → told (s .answers text at start limit buffer) .cursor .at ≡ at + count at start limit buffer
 
 -- a writer that writes nothing, whatever it answers: by is-written and is-left, as two bodies would have to come back from one text
 abbrev pub Writes-nothing : Writer → Type 0
@@ -141,6 +141,6 @@ abbrev pub Shuts-out : Type 0
 Shuts-out =
     (w : Writer) (s : Scanner) → Reads-back w s
     → (Refuses-all s → ⊥)
-    × ((body : List ℕ) → Fixed-body s body → ⊥)
-    × ((count : ℕ → ℕ) → Invents-count s count → ⊥)
+    × ((body : ℕ → Position → ℕ → List ℕ → List ℕ) → Fixed-body s body → ⊥)
+    × ((count : ℕ → Position → ℕ → List ℕ → ℕ) → Invents-count s count → ⊥)
     × (Writes-nothing w → ⊥)
