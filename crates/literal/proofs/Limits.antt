@@ -1,21 +1,41 @@
 -- Demand 3 for one literal, over any reading. Assumes nothing.
-use Prim.Native.Nat.{ℕ, zero, suc, _+_, _-_, _≤_, _<_}
+use Prim.Native.Nat.{ℕ, _+_, _-_, _≤_}
 use native.Mathlib.Omega.{arith}
 use native.Mathlib.Nat.{zero-add, add-zero}
 use mathlib.Core.Bool.{Bool, true, false}
-use mathlib.Core.List.{List, [], _∷_, _++_}
+use mathlib.Core.List.{List, _++_}
 use mathlib.Core.Logic.{_⊎_, inl, inr, ⊎-elim}
 use mathlib.Core.Path.{_≡_, refl, sym, ap, _∙_}
 use lib.Dec.{leb, ltb, eqb}
 use lib.ListN.{length, length-append}
-use borrow.Author.Tests.{le-ltb, ltb-false, eq-eqb, ne-eqb, le-leb, leb-true, leb-false}
+use borrow.Author.Tests.{le-ltb, ltb-false, eq-eqb, ne-eqb, le-leb, lt-leb, leb-true, leb-false}
 use Rattle.basis.specs.Pick.{pick}
 use Rattle.basis.proofs.Cases.{pick-cases}
-use Rattle.fault.specs.Faults.{Own}
-use Rattle.literal.specs.Trace.{Trace, ends, fails, adds, checks, bytes, final, good, bad, passes}
+use Rattle.position.specs.declared.Position.{Position}
+use Rattle.fault.specs.Faults.{stringTooLong, Own}
+use Rattle.fault.specs.declared.Fault.{Fault}
+use Rattle.literal.specs.Trace.{Trace, ends, fails, adds, checks, bytes, final, Outcome, good, bad, passes}
 use Rattle.literal.specs.Cut.{cut, answer}
 use Rattle.literal.specs.Told.{number}
-use Rattle.literal.specs.Limits.{Looser, Sevens, Accepted-whole, Uncut-within, Recurs-whole, Cuts, no-room, too-long, goes-on, is-tested, Cut-at-the-first}
+use Rattle.literal.specs.Limits.{
+  Looser,
+  Sevens,
+  Accepted-whole,
+  Uncut-within,
+  Recurs-whole,
+  Bound,
+  string-limit,
+  literal-room,
+  token-room,
+  Cuts,
+  no-room,
+  too-long,
+  goes-on,
+  is-tested,
+  Cut-there,
+  Uncut-else,
+  Cut-at-the-first,
+}
 use Rattle.literal.specs.declared.End.{End}
 use Rattle.literal.specs.declared.Refusal.{Refusal}
 use Rattle.literal.specs.declared.Scanned.{Scanned}
@@ -72,8 +92,8 @@ looser l m n (inr p) h =
     let k : ltb l n ≡ false = rw (ne-eqb l 0 (λ e. omega arith)) at h in
     rw (ne-eqb m 0 (λ e. omega arith), le-ltb m n (omega (arith, ltb-false l n k)))
 
-module _ (full : Refusal) (l m r s : ℕ) (nine : full .fault .number ≡ 9) (loose : Looser l m) (more : r ≤ s) where
-  recurs : (n : ℕ) (t : Trace) → Sevens t → (number (cut full l r n t) ≡ 7 → ⊥) → (number (cut full l r n t) ≡ 9 → ⊥) → cut full m s n t ≡ cut full l r n t
+module _ (full : Refusal) (l m r s : ℕ) (start : Position) (nine : full .fault .number ≡ 9) (loose : Looser l m) (more : r ≤ s) where
+  recurs : (n : ℕ) (t : Trace) → Sevens start t → (number (cut full l r n t) ≡ 7 → ⊥) → (number (cut full l r n t) ≡ 9 → ⊥) → cut full m s n t ≡ cut full l r n t
   unfolding cut number
   recurs n (ends e) sv = λ x y. refl
   recurs n (fails f) sv = λ x y. refl
@@ -83,11 +103,11 @@ module _ (full : Refusal) (l m r s : ℕ) (nine : full .fault .number ≡ 9) (lo
       (λ q x y. absurd (y nine))
   recurs n (checks f t) sv =
       pick-cases (λ (a : Scanned). (number a ≡ 7 → ⊥) → (number a ≡ 9 → ⊥) → pick (passes m n) (Refused f) (cut full m s n t) ≡ a) (passes l n) _ _
-      (λ q x y. absurd (x (sv .0)))
+      (λ q x y. absurd (x (ap (λ (g : Fault). g .number) (sv .0))))
       (λ q x y. rw (looser l m n loose q) (recurs n t (sv .1) x y))
 
 pub recurs-whole : Recurs-whole
-recurs-whole full l m r s t nine sv loose more x y = recurs full l m r s nine loose more 0 t sv x y
+recurs-whole full l m r s start t nine sv loose more x y = recurs full l m r s start nine loose more 0 t sv x y
 
 -- an accepted reading stays accepted
 module _ (full : Refusal) (l m r s : ℕ) (loose : Looser l m) (more : r ≤ s) (e : End) (k : ℕ) where
@@ -111,31 +131,122 @@ stays-accepted full l m r s t e k loose more = accepted full l m r s loose more 
 refusal-is : {f g : Refusal} → Refused f ≡ Refused g → f ≡ g
 refusal-is h = cc
 
-neither {ℓ} : {A : Type ℓ} {k : ℕ} → (k ≡ 7 → ⊥) → (k ≡ 9 → ⊥) → (k ≡ 7) ⊎ (k ≡ 9) → A
-neither x y (inl e) = absurd (x e)
-neither x y (inr e) = absurd (y e)
-
-module _ (full : Refusal) (limit room : ℕ) (f : Refusal) (z : (f .fault .number ≡ 7) ⊎ (f .fault .number ≡ 9)) where
-  first : (n : ℕ) (t : Trace) → Sevens t → cut full limit room n t ≡ Refused f → Cuts full limit room n t f
+module _ (full : Refusal) (limit room : ℕ) where
+  cuts-refuse : {n : ℕ} {t : Trace} {by : Bound} {f : Refusal} → Cuts full limit room n t by f → cut full limit room n t ≡ Refused f
   unfolding cut
-  first n (ends e) sv = λ h. not-accepted (sym h)
-  first n (fails g) sv = λ h. let q : g ≡ f = refusal-is h in neither (λ e. sv .0 (rw q e)) (λ e. sv .1 (rw q e)) z
-  first n (adds bs t) sv =
-      pick-cases (λ (a : Scanned). a ≡ Refused f → Cuts full limit room n (adds bs t) f) (leb (n + length bs) room) _ _
-      (λ q h. goes-on (leb-true _ _ q) (first (n + length bs) t sv h))
-      (λ q h. let p : full ≡ f = refusal-is h in rw (← p) (no-room (leb-false _ _ q)))
-  first n (checks g t) sv =
-      pick-cases (λ (a : Scanned). a ≡ Refused f → Cuts full limit room n (checks g t) f) (passes limit n) _ _
-      (λ q h. let p : g ≡ f = refusal-is h in rw (← p) (too-long q))
-      (λ q h. is-tested q (first n t (sv .1) h))
+  cuts-refuse (no-room h) = rw (lt-leb _ _ h)
+  cuts-refuse (too-long h) = rw h
+  cuts-refuse (goes-on h c) = rw (le-leb _ _ h) (cuts-refuse c)
+  cuts-refuse (is-tested h c) = rw h (cuts-refuse c)
+
+  -- nothing cuts it
+  abbrev pub Uncut : ℕ → Trace → Type 0
+  Uncut n t = (by : Bound) (f : Refusal) → Cuts full limit room n t by f → ⊥
+
+  uncut-from : (n : ℕ) (t : Trace) → Uncut n t → cut full limit room n t ≡ answer (n + length (bytes t)) (final t)
+  unfolding cut bytes final answer
+  uncut-from n (ends e) never = rw add-zero
+  uncut-from n (fails f) never = refl
+  uncut-from n (adds bs t) never =
+      let e : n + length (bs ++ bytes t) ≡ n + length bs + length (bytes t) = omega (arith, length-append bs (bytes t)) in
+      rw e
+      (pick-cases (λ (a : Scanned). a ≡ answer (n + length bs + length (bytes t)) (final t)) (leb (n + length bs) room) _ _
+      (λ q. uncut-from (n + length bs) t (λ by f c. never by f (goes-on (leb-true _ _ q) c)))
+      (λ q. absurd (never literal-room full (no-room (leb-false _ _ q)))))
+  uncut-from n (checks f t) never =
+      pick-cases (λ (a : Scanned). a ≡ answer (n + length (bytes t)) (final t)) (passes limit n) _ _
+      (λ q. absurd (never string-limit f (too-long q)))
+      (λ q. uncut-from n t (λ by g c. never by g (is-tested q c)))
+
+  -- a reading is cut, or nothing cuts it
+  abbrev pub Cut-or-not : ℕ → Trace → Type 0
+  Cut-or-not n t = ((by : Bound) × (f : Refusal) × Cuts full limit room n t by f) ⊎ Uncut n t
+
+  behind-step : (n : ℕ) (bs : List ℕ) (t : Trace) → n + length bs ≤ room → Uncut (n + length bs) t → Uncut n (adds bs t)
+  behind-step n bs t l never by f c = back c never
+    where
+      back : {f : Refusal} {by : Bound} → Cuts full limit room n (adds bs t) by f → Uncut (n + length bs) t → ⊥
+      back (no-room h) never = omega arith
+      back (goes-on h c) never = never _ _ c
+
+  behind-test : (n : ℕ) (g : Refusal) (t : Trace) → passes limit n ≡ false → Uncut n t → Uncut n (checks g t)
+  behind-test n g t l never by f c = back c never
+    where
+      back : {f : Refusal} {by : Bound} → Cuts full limit room n (checks g t) by f → Uncut n t → ⊥
+      back (too-long h) never = let z : _≡_ {A = Bool} true false = sym h ∙ l in absurd (let q : _≡_ {A = ℕ} 0 1 = cc in omega arith)
+      back (is-tested h c) never = never _ _ c
+
+  cut-or-not : (n : ℕ) (t : Trace) → Cut-or-not n t
+  cut-or-not n (ends e) = inr (λ by f. elim [ ])
+  cut-or-not n (fails g) = inr (λ by f. elim [ ])
+  cut-or-not n (adds bs t) =
+      pick-cases (λ (b : Bool). Cut-or-not n (adds bs t)) (leb (n + length bs) room) true false
+      (λ q. ⊎-elim (λ c. inl (c .0, c .1, goes-on (leb-true _ _ q) (c .2))) (λ never. inr (behind-step n bs t (leb-true _ _ q) never)) (cut-or-not (n + length bs) t))
+      (λ q. inl (literal-room, full, no-room (leb-false _ _ q)))
+  cut-or-not n (checks g t) =
+      pick-cases (λ (b : Bool). Cut-or-not n (checks g t)) (passes limit n) true false
+      (λ q. inl (string-limit, g, too-long q))
+      (λ q. ⊎-elim (λ c. inl (c .0, c .1, is-tested q (c .2))) (λ never. inr (behind-test n g t q never)) (cut-or-not n t))
+
+  -- the refusal by what is passed: 7 at the literal's start, or the one for want of room
+  abbrev pub Refused-by : Position → Bound → Refusal → Type 0
+  Refused-by start string-limit f = f .fault ≡ stringTooLong start
+  Refused-by start literal-room f = f ≡ full
+  Refused-by start token-room f = ⊥
+
+  pub cuts-by : {n : ℕ} {t : Trace} {by : Bound} {f : Refusal} (start : Position) → Sevens start t → Cuts full limit room n t by f → Refused-by start by f
+  cuts-by start sv (no-room h) = refl
+  cuts-by start sv (too-long h) = sv .0
+  cuts-by start sv (goes-on h c) = cuts-by start sv c
+  cuts-by start sv (is-tested h c) = cuts-by start (sv .1) c
+
+pub cut-there : Cut-there
+cut-there full limit room t by f c = cuts-refuse full limit room c
+
+pub uncut-else : Uncut-else
+uncut-else full limit room t never = uncut-from full limit room 0 t never ∙ ap (λ (n : ℕ). answer n (final t)) (zero-add (length (bytes t)))
+
+pub cut-decided : (full : Refusal) (limit room : ℕ) (t : Trace) → Cut-or-not full limit room 0 t
+cut-decided full limit room t = cut-or-not full limit room 0 t
+
+-- ---- a refusal by a rule of its own is neither 7 nor 9 nor 10
+pub own-refusal : (start : Position) (t : Trace) (f : Refusal) → Sevens start t → final t ≡ bad f → Own (f .fault)
+unfolding final
+own-refusal start (ends e) f sv h = absurd (let q : _≡_ {A = ℕ} 0 1 = cc in omega arith)
+own-refusal start (fails g) f sv h = let q : g ≡ f = cc in rw (← q) sv
+own-refusal start (adds bs t) f sv h = own-refusal start t f sv h
+own-refusal start (checks g t) f sv h = own-refusal start t f (sv .1) h
+
+-- an answer by the unlimited rules that is a refusal is one of those
+pub answer-bad : (n : ℕ) (o : Outcome) (f : Refusal) → answer n o ≡ Refused f → o ≡ bad f
+unfolding answer
+answer-bad n (good e) f h = not-accepted (sym h)
+answer-bad n (bad g) f h = ap bad (refusal-is h)
+
+module _ (full : Refusal) (limit room : ℕ) (start : Position) (t : Trace) (f : Refusal) (nine : full .fault .number ≡ 9) (sv : Sevens start t) (h : cut full limit room 0 t ≡ Refused f) where
+  -- it is cut so, or is refused by a rule of its own
+  abbrev Cut-so : Type 0
+  Cut-so = ((by : Bound) × Cuts full limit room 0 t by f) ⊎ Own (f .fault)
+
+  refused-so : Cut-so
+  refused-so = by (cut-decided full limit room t)
+    where
+      by : Cut-or-not full limit room 0 t → Cut-so
+      by (inl (b, g, c)) = let q : g ≡ f = refusal-is (sym (cut-there full limit room t b g c) ∙ h) in inl (b, rw q at c)
+      by (inr never) = inr (own-refusal start t f sv (answer-bad (length (bytes t)) (final t) f (sym (uncut-else full limit room t never) ∙ h)))
+
+  seven : f .fault .number ≡ 7 → Cut-so → Cuts full limit room 0 t string-limit f
+  seven e (inr own) = absurd (own .0 e)
+  seven e (inl (string-limit, c)) = c
+  seven e (inl (literal-room, c)) = absurd (let q = ap (λ (g : Refusal). g .fault .number) (cuts-by full limit room start sv c) in omega arith)
+  seven e (inl (token-room, c)) = absurd (cuts-by full limit room start sv c)
+
+  nine-so : f .fault .number ≡ 9 → Cut-so → Cuts full limit room 0 t literal-room f
+  nine-so e (inr own) = absurd (own .1 e)
+  nine-so e (inl (string-limit, c)) = absurd (let q = ap (λ (g : Fault). g .number) (cuts-by full limit room start sv c) in omega arith)
+  nine-so e (inl (literal-room, c)) = c
+  nine-so e (inl (token-room, c)) = absurd (cuts-by full limit room start sv c)
 
 pub cut-at-the-first : Cut-at-the-first
-cut-at-the-first full limit room t f sv h z = first full limit room f z 0 t sv h
-
--- a refusal by a rule of its own is neither 7 nor 9 nor 10
-pub own-refusal : (t : Trace) (f : Refusal) → Sevens t → final t ≡ bad f → Own (f .fault)
-unfolding final
-own-refusal (ends e) f sv h = absurd (let q : _≡_ {A = ℕ} 0 1 = cc in omega arith)
-own-refusal (fails g) f sv h = let q : g ≡ f = cc in rw (← q) sv
-own-refusal (adds bs t) f sv h = own-refusal t f sv h
-own-refusal (checks g t) f sv h = own-refusal t f (sv .1) h
+cut-at-the-first full limit room start t f nine sv h =
+    let r = refused-so full limit room start t f nine sv h in (λ e. seven full limit room start t f nine sv h e r, λ e. nine-so full limit room start t f nine sv h e r)

@@ -5,5 +5,7 @@ pub mod RoundTrip
 pub mod Standing
 pub mod Shutting
 pub mod Calls
+pub mod Limits
+pub mod ShuttingRuns
 pub mod Examples
 pub mod LargeBodies

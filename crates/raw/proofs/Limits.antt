@@ -3,7 +3,6 @@ use Prim.Native.Nat.{ℕ, _≤_}
 use native.Mathlib.Omega.{arith}
 use mathlib.Core.Bool.{Bool, false}
 use mathlib.Core.List.{List}
-use mathlib.Core.Logic.{_⊎_}
 use mathlib.Core.Path.{_≡_, refl}
 use lib.Dec.{eqb}
 use lib.ListN.{length}
@@ -13,7 +12,7 @@ use Rattle.chars.specs.Cursors.{cursor}
 use Rattle.chars.specs.declared.cursor.Cursor.{Cursor}
 use Rattle.literal.specs.Trace.{fails, bytes, final, good, passes}
 use Rattle.literal.specs.Cut.{answer}
-use Rattle.literal.specs.Limits.{Looser, Sevens, Cuts}
+use Rattle.literal.specs.Limits.{Looser, Sevens, string-limit, literal-room, Cuts}
 use Rattle.literal.specs.Told.{number}
 use Rattle.literal.specs.declared.End.{End}
 use Rattle.literal.specs.declared.Refusal.{Refusal}
@@ -25,14 +24,14 @@ use Rattle.raw.specs.Raw.{traceOf, entersOf, resumesOf, parseTrace, pars
 use Rattle.raw.proofs.Refusals.{enters-small, resumes-small}
 
 module _ (lines : Bool) (t : List ℕ) where
-  trace-sevens : (n : ℕ) (start : Cursor) (k : ℕ) → n ≤ 3 → Sevens (traceOf lines n t start k)
+  trace-sevens : (n : ℕ) (start : Cursor) (k : ℕ) → n ≤ 3 → Sevens (start .place) (traceOf lines n t start k)
   unfolding traceOf
   trace-sevens n start k h =
-      pick-cases Sevens (eqb n 0) (readOf lines t start k) (fails (refused n start)) (λ q. read-sevens lines t start k) (λ q. (λ p. omega arith, λ p. omega arith, λ p. omega arith))
+      pick-cases (Sevens (start .place)) (eqb n 0) (readOf lines t start k) (fails (refused n start)) (λ q. read-sevens lines t start k) (λ q. (λ p. omega arith, λ p. omega arith, λ p. omega arith))
 
   module _ (at : ℕ) (p : Position) where
     -- entered after the first hash
-    pub parse-sevens : Sevens (parseTrace lines t at p)
+    pub parse-sevens : Sevens p (parseTrace lines t at p)
     unfolding parseTrace
     parse-sevens = trace-sevens (entersOf t (cursor at p)) (cursor at p) 0 (enters-small t (cursor at p))
 
@@ -52,17 +51,18 @@ module _ (lines : Bool) (t : List ℕ) where
     pub parse-recurs : (l m r s : ℕ) → Looser l m → r ≤ s → (number (parseOf lines t at p l r) ≡ 7 → ⊥) → (number (parseOf lines t at p l r) ≡ 9 → ⊥)
         → parseOf lines t at p m s ≡ parseOf lines t at p l r
     unfolding parseOf
-    parse-recurs l m r s loose more x y = recurs-whole (refused 9 (cursor at p)) l m r s (parseTrace lines t at p) refl parse-sevens loose more x y
+    parse-recurs l m r s loose more x y = recurs-whole (refused 9 (cursor at p)) l m r s p (parseTrace lines t at p) refl parse-sevens loose more x y
 
-    -- 7 or 9 comes at the first step that passes
-    pub parse-cut-first : (limit room : ℕ) (f : Refusal) → parseOf lines t at p limit room ≡ Refused f → (f .fault .number ≡ 7) ⊎ (f .fault .number ≡ 9)
-        → Cuts (refused 9 (cursor at p)) limit room 0 (parseTrace lines t at p) f
+    -- 7 comes at the first test that finds more than the limit, 9 at the first step that passes the room, and only there
+    pub parse-cut-first : (limit room : ℕ) (f : Refusal) → parseOf lines t at p limit room ≡ Refused f
+        → (f .fault .number ≡ 7 → Cuts (refused 9 (cursor at p)) limit room 0 (parseTrace lines t at p) string-limit f)
+        × (f .fault .number ≡ 9 → Cuts (refused 9 (cursor at p)) limit room 0 (parseTrace lines t at p) literal-room f)
     unfolding parseOf
-    parse-cut-first limit room f h z = cut-at-the-first (refused 9 (cursor at p)) limit room (parseTrace lines t at p) f parse-sevens h z
+    parse-cut-first limit room f h = cut-at-the-first (refused 9 (cursor at p)) limit room p (parseTrace lines t at p) f refl parse-sevens h
 
     -- resumed with a hash count: the same
     module _ (k : ℕ) where
-      pub resume-sevens : Sevens (resumeTrace lines t at p k)
+      pub resume-sevens : Sevens p (resumeTrace lines t at p k)
       unfolding resumeTrace
       resume-sevens = trace-sevens (resumesOf t (cursor at p) k) (cursor at p) k (resumes-small t (cursor at p) k)
 
@@ -79,9 +79,10 @@ module _ (lines : Bool) (t : List ℕ) where
       pub resume-recurs : (l m r s : ℕ) → Looser l m → r ≤ s → (number (resumeOf lines t at p k l r) ≡ 7 → ⊥) → (number (resumeOf lines t at p k l r) ≡ 9 → ⊥)
           → resumeOf lines t at p k m s ≡ resumeOf lines t at p k l r
       unfolding resumeOf
-      resume-recurs l m r s loose more x y = recurs-whole (refused 9 (cursor at p)) l m r s (resumeTrace lines t at p k) refl resume-sevens loose more x y
+      resume-recurs l m r s loose more x y = recurs-whole (refused 9 (cursor at p)) l m r s p (resumeTrace lines t at p k) refl resume-sevens loose more x y
 
-      pub resume-cut-first : (limit room : ℕ) (f : Refusal) → resumeOf lines t at p k limit room ≡ Refused f → (f .fault .number ≡ 7) ⊎ (f .fault .number ≡ 9)
-          → Cuts (refused 9 (cursor at p)) limit room 0 (resumeTrace lines t at p k) f
+      pub resume-cut-first : (limit room : ℕ) (f : Refusal) → resumeOf lines t at p k limit room ≡ Refused f
+          → (f .fault .number ≡ 7 → Cuts (refused 9 (cursor at p)) limit room 0 (resumeTrace lines t at p k) string-limit f)
+          × (f .fault .number ≡ 9 → Cuts (refused 9 (cursor at p)) limit room 0 (resumeTrace lines t at p k) literal-room f)
       unfolding resumeOf
-      resume-cut-first limit room f h z = cut-at-the-first (refused 9 (cursor at p)) limit room (resumeTrace lines t at p k) f resume-sevens h z
+      resume-cut-first limit room f h = cut-at-the-first (refused 9 (cursor at p)) limit room p (resumeTrace lines t at p k) f refl resume-sevens h

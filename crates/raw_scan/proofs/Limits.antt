@@ -1,4 +1,4 @@
--- Demand 3 for the reading of a raw literal: every test of the limit refuses with 7, and no rule of its own with 7, 9 or 10. Assumes nothing.
+-- Demand 3 for the reading of a raw literal: every test of the limit refuses with 7 at its start, and no rule of its own with 7, 9 or 10. Assumes nothing.
 use Prim.Native.Nat.{ℕ}
 use native.Mathlib.Omega.{arith}
 use mathlib.Core.Bool.{Bool}
@@ -8,6 +8,6 @@ use Rattle.literal.specs.Limits.{Sevens}
 use Rattle.raw_scan.specs.Raw.{readOf}
 use Rattle.raw_scan.proofs.Readings.{every}
 
-pub read-sevens : (lines : Bool) (t : List ℕ) (start : Cursor) (k : ℕ) → Sevens (readOf lines t start k)
+pub read-sevens : (lines : Bool) (t : List ℕ) (start : Cursor) (k : ℕ) → Sevens (start .place) (readOf lines t start k)
 read-sevens lines t start k =
-    every lines t (λ at r. Sevens r) (λ at e q. tt) (λ at f l. (λ q. omega arith, λ q. omega arith, λ q. omega arith)) (λ at bs f r q h. (q, h)) (λ at c w r e h. h) start k
+    every lines t start (λ at r. Sevens (start .place) r) (λ at e q. tt) (λ at f l. (λ q. omega arith, λ q. omega arith, λ q. omega arith)) (λ at bs f r q h. (q, h)) (λ at c w r e h. h) k

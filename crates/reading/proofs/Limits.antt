@@ -1,29 +1,30 @@
--- Demand 3 for a run, over any reading. Assumes nothing.
-use Prim.Native.Nat.{ℕ, zero, suc, _+_, _-_, _≤_, _<_}
+-- What passes in a reading, and what the bounds leave of it, over any reading. Assumes nothing.
+use Prim.Native.Nat.{ℕ, _+_, _-_, _≤_}
 use native.Mathlib.Omega.{arith}
-use native.Mathlib.Nat.{zero-add}
+use native.Mathlib.Nat.{add-zero}
 use mathlib.Core.Bool.{Bool, true, false}
 use mathlib.Core.List.{List, [], _∷_, _++_, append-assoc}
 use mathlib.Core.Logic.{_⊎_, inl, inr}
 use mathlib.Core.Path.{_≡_, refl, sym, ap, _∙_}
 use lib.Dec.{ltb}
 use lib.ListN.{length}
-use borrow.Author.Tests.{lt-ltb, ltb-true, ltb-false}
+use borrow.Author.Tests.{lt-ltb, le-ltb, ltb-true, ltb-false}
 use Rattle.basis.specs.Pick.{pick}
 use Rattle.basis.proofs.Cases.{pick-cases}
 use Rattle.position.specs.declared.Position.{Position}
 use Rattle.fault.specs.declared.Fault.{Fault}
+use Rattle.fault.specs.declared.Part.{Part}
 use Rattle.fault.specs.Faults.{noTokenRoom, Own}
 use Rattle.chars.specs.declared.cursor.Cursor.{Cursor}
 use Rattle.literal.specs.declared.End.{End}
 use Rattle.literal.specs.declared.Refusal.{Refusal}
 use Rattle.literal.specs.declared.Scanned.{Scanned}
 use Rattle.literal.specs.declared.Scanned.the-variants.{Accepted, Refused}
-use Rattle.literal.specs.Trace.{Trace, bytes, final, Outcome, good, bad, passes}
+use Rattle.literal.specs.Trace.{Trace, bytes, final, Outcome, good, bad}
 use Rattle.literal.specs.Told.{number}
-use Rattle.literal.specs.Cut.{cut, answer}
-use Rattle.literal.specs.Limits.{Looser, Sevens, Cuts}
-use Rattle.literal.proofs.Limits.{accepted-whole, uncut-within, recurs-whole, cut-at-the-first, stays-accepted, not-accepted, own-refusal}
+use Rattle.literal.specs.Cut.{answer}
+use Rattle.literal.specs.Limits.{Sevens, Bound, string-limit, literal-room, token-room}
+use Rattle.literal.proofs.Limits.{accepted-whole, recurs-whole, stays-accepted, own-refusal, cut-there, uncut-else, Refused-by, cuts-by, Cut-or-not, cut-decided}
 use Rattle.reading.specs.declared.Ending.{Ending}
 use Rattle.reading.specs.declared.Ending.the-variants.{Stop}
 use Rattle.reading.specs.declared.Entry.{Entry}
@@ -33,18 +34,29 @@ use Rattle.reading.specs.Limits.{
   Fair,
   Wider,
   Begins,
-  Lists-the-first,
-  Repeats,
-  Recurs,
-  Is-whole,
+  Ends-own,
+  Caused,
+  refusedBy,
+  Literal-passes,
   Passes,
   a-literal,
   an-unlisted,
   its-entry,
   an-entry,
-  behind-it,
+  Next,
+  a-part,
+  read-well,
+  First,
+  this-one,
   behind,
-  Stops-at-the-first,
+  First-past,
+  stopped,
+  Stops-there,
+  Whole-else,
+  Only-there,
+  Lists-the-first,
+  Repeats,
+  Recurs,
 }
 
 -- ---- cases
@@ -97,10 +109,10 @@ module _ (b c : Bounds) (w : Wider b c) where
   accepted-wider used s t e m h = stays-accepted (full s) (b .limit) (c .limit) (b .literals - used) (c .literals - used) t e m (w .0) (omega (arith, w .1)) h
 
   -- one that is refused for no limit and no room stays refused
-  refused-wider : (used : ℕ) (s : Cursor) (t : Trace) (f : Refusal) → Sevens t → Own (f .fault) → scanned b used s t ≡ Refused f → scanned c used s t ≡ Refused f
+  refused-wider : (used : ℕ) (s : Cursor) (t : Trace) (f : Refusal) → Sevens (s .place) t → Own (f .fault) → scanned b used s t ≡ Refused f → scanned c used s t ≡ Refused f
   unfolding number
   refused-wider used s t f sv own h =
-      recurs-whole (full s) (b .limit) (c .limit) (b .literals - used) (c .literals - used) t refl sv (w .0) (omega (arith, w .1)) (λ e. own .0 (rw h at e)) (λ e. own .1 (rw h at e)) ∙ h
+      recurs-whole (full s) (b .limit) (c .limit) (b .literals - used) (c .literals - used) (s .place) t refl sv (w .0) (omega (arith, w .1)) (λ e. own .0 (rw h at e)) (λ e. own .1 (rw h at e)) ∙ h
 
   repeat : (n used : ℕ) (r : Reading) → Begins (cutRun b n used r) (cutRun c n used r)
   unfolding cutRun
@@ -124,10 +136,6 @@ pub repeats : Repeats
 repeats b c r w = repeat b c w 0 0 r
 
 -- ---- an ending that no limit and no room causes
--- how a run ends is none of 7, 9 and 10
-abbrev Ends-own : Left → Type 0
-Ends-own l = (f : Fault) → l .ending ≡ Stop f → Own f
-
 -- a stop for want of an entry is one of them
 not-ten {ℓ} : {A : Type ℓ} (p : Position) → Ends-own (ended (Stop (noTokenRoom p))) → A
 not-ten p h = absurd (h _ refl .2 refl)
@@ -157,86 +165,207 @@ module _ (b c : Bounds) (w : Wider b c) where
 pub recurs : Recurs
 recurs b c r fair w own = recur b c w 0 0 r fair own
 
--- a literal that is refused for no limit and no room ends so by the unlimited rules
-is-bad : (n : ℕ) (o : Outcome) (f : Refusal) → answer n o ≡ Refused f → o ≡ bad f
-unfolding answer
-is-bad n (good e) f h = not-accepted (sym h)
-is-bad n (bad g) f h = let q : g ≡ f = cc in ap bad q
+-- ---- the token that passes
+module _ (b : Bounds) (used : ℕ) (s : Cursor) (t : Trace) where
+  -- a literal that passes is refused at its start
+  passes-refused : (by : Bound) → Sevens (s .place) t → Literal-passes b used s t by → (f : Refusal) × (scanned b used s t ≡ Refused f) × (f .fault ≡ refusedBy by (s .place))
+  passes-refused by sv (f, c) = (f, cut-there (full s) (b .limit) (b .literals - used) t by f c, same by (cuts-by (full s) (b .limit) (b .literals - used) (s .place) sv c))
+    where
+      same : (by : Bound) → Refused-by (full s) (b .limit) (b .literals - used) (s .place) by f → f .fault ≡ refusedBy by (s .place)
+      same string-limit q = q
+      same literal-room q = ap (λ (g : Refusal). g .fault) q
+      same token-room q = absurd q
+
+  -- one that passes neither is answered as the unlimited rules say
+  passes-none : ((by : Bound) → Literal-passes b used s t by → ⊥) → scanned b used s t ≡ answer (length (bytes t)) (final t)
+  passes-none never = uncut-else (full s) (b .limit) (b .literals - used) t (λ by f c. never by (f, c))
+
+  read-so : ((by : Bound) → Literal-passes b used s t by → ⊥) → {e : End} → final t ≡ good e → scanned b used s t ≡ Accepted e (length (bytes t))
+  unfolding answer
+  read-so never q = passes-none never ∙ ap (answer (length (bytes t))) q
+
+  -- it passes one of them, or none
+  literal-decided : ((by : Bound) × Literal-passes b used s t by) ⊎ ((by : Bound) → Literal-passes b used s t by → ⊥)
+  literal-decided = by (cut-decided (full s) (b .limit) (b .literals - used) t)
+    where
+      by : Cut-or-not (full s) (b .limit) (b .literals - used) 0 t → ((by : Bound) × Literal-passes b used s t by) ⊎ ((by : Bound) → Literal-passes b used s t by → ⊥)
+      by (inl (w, f, c)) = inl (w, (f, c))
+      by (inr never) = inr (λ w p. never w (p .0) (p .1))
 
 module _ (b : Bounds) where
-  refused-whole : (used : ℕ) (s : Cursor) (t : Trace) (f : Refusal) → Sevens t → (f .fault .number ≡ 7 → ⊥) × (f .fault .number ≡ 9 → ⊥) → scanned b used s t ≡ Refused f → final t ≡ bad f
-  unfolding number passes
-  refused-whole used s t f sv own h =
-      let loose = recurs-whole (full s) (b .limit) 0 (b .literals - used) (b .literals - used + length (bytes t)) t refl sv (inl refl) (omega arith) (λ e. own .0 (rw h at e)) (λ e. own .1 (rw h at e)) in
-      is-bad (length (bytes t)) (final t) f (sym (uncut-within (full s) 0 (b .literals - used + length (bytes t)) t (omega arith) refl) ∙ loose ∙ h)
-
-  is-all : (n used : ℕ) (r : Reading) → Fair r → Ends-own (cutRun b n used r) → cutRun b n used r ≡ whole used r
-  unfolding cutRun whole
-  is-all n used (over p) fair = λ own. refl
-  is-all n used (halts f) fair = λ own. refl
-  is-all n used (spoils s t f) fair =
-      on-scan (λ (l : Left). Ends-own l → l ≡ onEnd (final t) (ended (Stop f))) (scanned b used s t) _
-      (λ e m h own. rw (accepted-whole _ _ _ t e m h .2))
-      (λ g h own. rw (refused-whole used s t g (fair .0) (own _ refl .0, own _ refl .1) h))
-  is-all n used (lists k p q r) fair =
-      pick-cases (λ (l : Left). Ends-own l → l ≡ whole used (lists k p q r)) (ltb n (b .entries)) _ _
-      (λ h own. ap (more (entry k p (q .at) (q .len)) []) (is-all (n + 1) used r fair own))
-      (λ h own. not-ten p own)
-  is-all n used (reads k s t r) fair =
-      on-scan (λ (l : Left). Ends-own l → l ≡ whole used (reads k s t r)) (scanned b used s t) _
-      (λ e m h.
-      let d = accepted-whole _ _ _ t e m h in
-      rw (d .2, ← d .0)
-      (pick-cases (λ (l : Left). Ends-own l → l ≡ more (entry k (s .place) used m) (bytes t) (whole (used + m) r)) (ltb n (b .entries)) _ _
-      (λ g own. ap (more (entry k (s .place) used m) (bytes t)) (is-all (n + 1) (used + m) r (fair .1) own))
-      (λ g own. not-ten (s .place) own)))
-      (λ g h own. rw (refused-whole used s t g (fair .0) (own _ refl .0, own _ refl .1) h))
-
-pub is-whole : Is-whole
-is-whole b r fair own = is-all b 0 0 r fair own
-
--- ---- where a run is cut
--- a fault that a limit or a room causes
-abbrev Cut-by : Fault → Type 0
-Cut-by f = (f .number ≡ 7) ⊎ (f .number ≡ 9) ⊎ (f .number ≡ 10)
-
-not-own {ℓ} : {A : Type ℓ} (f : Fault) → Own f → Cut-by f → A
-not-own f own (inl e) = absurd (own .0 e)
-not-own f own (inr (inl e)) = absurd (own .1 e)
-not-own f own (inr (inr e)) = absurd (own .2 e)
-
-module _ (b : Bounds) (f : Fault) (z : Cut-by f) where
-  -- a literal that is refused so is cut
-  seven-or-nine : (g : Fault) → (g .number ≡ 10 → ⊥) → g ≡ f → Cut-by f → (g .number ≡ 7) ⊎ (g .number ≡ 9)
-  seven-or-nine g never e (inl x) = inl (rw e x)
-  seven-or-nine g never e (inr (inl x)) = inr (rw e x)
-  seven-or-nine g never e (inr (inr x)) = absurd (never (rw e x))
-
-  no-ten : (used : ℕ) (s : Cursor) (t : Trace) (g : Refusal) → Sevens t → scanned b used s t ≡ Refused g → g .fault .number ≡ 10 → ⊥
-  no-ten used s t g fair h e = own-refusal t g fair (refused-whole b used s t g fair ((λ x. omega (arith, e, x)), (λ x. omega (arith, e, x))) h) .2 e
-
-  cuts : (used : ℕ) (s : Cursor) (t : Trace) (g : Refusal) → Sevens t → scanned b used s t ≡ Refused g → g .fault ≡ f → Cuts (full s) (b .limit) (b .literals - used) 0 t g
-  cuts used s t g fair h e = cut-at-the-first (full s) _ _ t g fair h (seven-or-nine (g .fault) (no-ten used s t g fair h) e z)
-
-  stops : (n used : ℕ) (r : Reading) → Fair r → cutRun b n used r .ending ≡ Stop f → Passes b n used r (cutRun b n used r .listed) f
+  -- what is left where the next token passes
+  passed : {n used : ℕ} {r : Reading} {by : Bound} {p : Position} → Fair r → Passes b n used r by p → cutRun b n used r ≡ stopped [] [] by p
   unfolding cutRun
-  stops n used (over p) fair = λ h. absurd (let q : _≡_ {A = ℕ} 0 1 = cc in omega arith)
-  stops n used (halts g) fair = λ h. let q : g ≡ f = stop-is h in not-own f (rw q at fair) z
-  stops n used (spoils s t g) fair =
-      on-scan (λ (l : Left). l .ending ≡ Stop f → Passes b n used (spoils s t g) (l .listed) f) (scanned b used s t) _
-      (λ e m h i. let q : g ≡ f = stop-is i in not-own f (rw q at fair .1) z)
-      (λ x h i. let q : x .fault ≡ f = stop-is i in rw (← q) (an-unlisted (cuts used s t x (fair .0) h q)))
-  stops n used (lists k p q r) fair =
-      pick-cases (λ (l : Left). l .ending ≡ Stop f → Passes b n used (lists k p q r) (l .listed) f) (ltb n (b .entries)) _ _
-      (λ h i. behind (ltb-true _ _ h) (stops (n + 1) used r fair i))
-      (λ h i. let e : noTokenRoom p ≡ f = stop-is i in rw (← e) (an-entry (ltb-false _ _ h)))
-  stops n used (reads k s t r) fair =
-      on-scan (λ (l : Left). l .ending ≡ Stop f → Passes b n used (reads k s t r) (l .listed) f) (scanned b used s t) _
-      (λ e m h.
-      pick-cases (λ (l : Left). l .ending ≡ Stop f → Passes b n used (reads k s t r) (l .listed) f) (ltb n (b .entries)) _ _
-      (λ g i. behind-it h (ltb-true _ _ g) (stops (n + 1) (used + m) r (fair .1) i))
-      (λ g i. let e : noTokenRoom (s .place) ≡ f = stop-is i in rw (← e) (its-entry h (ltb-false _ _ g))))
-      (λ x h i. let q : x .fault ≡ f = stop-is i in rw (← q) (a-literal (cuts used s t x (fair .0) h q)))
+  passed fair (a-literal {s = s} {t} {r} {by} l) = let x = passes-refused b _ s t by (fair .0) l in rw (x .1, x .2)
+  passed fair (an-unlisted {s} {t} {f} {by} l) = let x = passes-refused b _ s t by (fair .0) l in rw (x .1, x .2)
+  passed fair (its-entry {s = s} {t} never q l) = rw (read-so b _ s t never q, le-ltb _ _ l)
+  passed fair (an-entry l) = rw (le-ltb _ _ l)
 
-pub stops-at-the-first : Stops-at-the-first
-stops-at-the-first b r f fair h z = stops b f z 0 0 r fair h
+  -- an entry that does not pass has room
+  has-room : (n : ℕ) → (b .entries ≤ n → ⊥) → ltb n (b .entries) ≡ true
+  has-room n never = by (ltb n (b .entries)) refl
+    where
+      by : (x : Bool) → ltb n (b .entries) ≡ x → ltb n (b .entries) ≡ true
+      by true q = q
+      by false q = absurd (never (ltb-false _ _ q))
+
+  -- the next token, where it does not pass
+  next-on : {n used : ℕ} {r rest : Reading} {e : Entry} {bs : List ℕ} → Next used r e bs rest → ((to : Bound) (q : Position) → Passes b n used r to q → ⊥)
+      → cutRun b n used r ≡ more e bs (cutRun b (n + 1) (used + length bs) rest)
+  unfolding cutRun
+  next-on {used = used} a-part never = rw (has-room _ (λ l. never _ _ (an-entry l)), add-zero used)
+  next-on {used = used} (read-well {s = s} {t} q) never =
+      let within : (by : Bound) → Literal-passes b used s t by → ⊥ = λ by l. never _ _ (a-literal l) in
+      rw (read-so b used s t within q, has-room _ (λ l. never _ _ (its-entry within q l)))
+
+  next-fair : {used : ℕ} {r rest : Reading} {e : Entry} {bs : List ℕ} → Next used r e bs rest → Fair r → Fair rest
+  next-fair a-part fair = fair
+  next-fair (read-well q) fair = fair .1
+
+  there : {n used : ℕ} {r : Reading} {es : List Entry} {bs : List ℕ} {by : Bound} {p : Position} → Fair r → First b n used r es bs by p → cutRun b n used r ≡ stopped es bs by p
+  there fair (this-one x) = passed fair x
+  there fair (behind {e = e} {bs} next never x) = next-on next never ∙ ap (more e bs) (there (next-fair next fair) x)
+
+  -- none passes
+  abbrev None : ℕ → ℕ → Reading → Type 0
+  None n used r = First-past b n used r → ⊥
+
+  -- not the next one, and none behind it
+  none-here : {n used : ℕ} {r : Reading} → None n used r → (to : Bound) (q : Position) → Passes b n used r to q → ⊥
+  none-here never to q x = never (record { entries = []; literals = []; bound = to; place = q; first = this-one x })
+
+  none-behind : {n used : ℕ} {r rest : Reading} {e : Entry} {bs : List ℕ} → Next used r e bs rest → None n used r → None (n + 1) (used + length bs) rest
+  none-behind {e = e} {bs} next never x =
+      never (record { entries = e ∷ x .entries; literals = bs ++ x .literals; bound = x .bound; place = x .place; first = behind next (none-here never) (x .first) })
+
+  -- a literal's end, as the unlimited rules have it
+  ended-so : (o : Outcome) (next : ℕ → Left) (l : Left) (m : ℕ) → ((e : End) → o ≡ good e → next m ≡ l) → onScan (answer m o) next ≡ onEnd o l
+  unfolding answer
+  ended-so (good e) next l m h = h e refl
+  ended-so (bad f) next l m h = refl
+
+  all : (n used : ℕ) (r : Reading) → None n used r → cutRun b n used r ≡ whole used r
+  unfolding cutRun whole
+  all n used (over p) never = refl
+  all n used (halts f) never = refl
+  all n used (spoils s t f) never = rw (passes-none b used s t (λ by l. none-here never _ _ (an-unlisted l))) (ended-so (final t) _ _ _ (λ e q. refl))
+  all n used (lists k p q r) never =
+      next-on a-part (none-here never) ∙ ap (more (entry k p (q .at) (q .len)) []) (all (n + 1) (used + 0) r (none-behind a-part never) ∙ ap (λ (m : ℕ). whole m r) (add-zero used))
+  all n used (reads k s t r) never =
+      let ih = all (n + 1) (used + length (bytes t)) r in
+      rw (passes-none b used s t (λ by l. none-here never _ _ (a-literal l)))
+      (ended-so (final t) _ _ _ (λ e q. rw (has-room n (λ l. none-here never _ _ (its-entry (λ by x. none-here never _ _ (a-literal x)) q l))) (ap (more _ (bytes t)) (ih (none-behind (read-well q) never)))))
+
+  -- a token passes, or none does
+  abbrev Found : ℕ → ℕ → Reading → Type 0
+  Found n used r = First-past b n used r ⊎ None n used r
+
+  here : {n used : ℕ} {r : Reading} {by : Bound} {p : Position} → Passes b n used r by p → Found n used r
+  here {by = by} {p} x = inl (record { entries = []; literals = []; bound = by; place = p; first = this-one x })
+
+  -- the next one does not, and there is one token that it can be: then one behind it passes, or none
+  module _ {n used : ℕ} {r rest : Reading} {e : Entry} {bs : List ℕ} (next : Next used r e bs rest) (never : (to : Bound) (q : Position) → Passes b n used r to q → ⊥)
+      (same : (e′ : Entry) (cs : List ℕ) (rest′ : Reading) → Next used r e′ cs rest′ → (cs ≡ bs) × (rest′ ≡ rest)) where
+    further : Found (n + 1) (used + length bs) rest → Found n used r
+    further (inl x) = inl (record { entries = e ∷ x .entries; literals = bs ++ x .literals; bound = x .bound; place = x .place; first = behind next never (x .first) })
+    further (inr none) = inr (λ x. back (x .first))
+      where
+        back : {es : List Entry} {cs : List ℕ} {by : Bound} {p : Position} → First b n used r es cs by p → ⊥
+        back (this-one x) = never _ _ x
+        back (behind {es = es} {cs} {by} {p} other q x) =
+            let z = same _ _ _ other in none (record { entries = es; literals = cs; bound = by; place = p; first = rw (← z .0, ← z .1) x })
+
+  -- a reading that has no next token
+  last : {n used : ℕ} {r : Reading} → ((to : Bound) (q : Position) → Passes b n used r to q → ⊥) → ((e : Entry) (bs : List ℕ) (rest : Reading) → Next used r e bs rest → ⊥) → Found n used r
+  last {n} {used} {r} never end = inr (λ x. back (x .first))
+    where
+      back : {es : List Entry} {cs : List ℕ} {by : Bound} {p : Position} → First b n used r es cs by p → ⊥
+      back (this-one x) = never _ _ x
+      back (behind next q x) = end _ _ _ next
+
+  module _ (n used : ℕ) (s : Cursor) (t : Trace) where
+    spoils-decided : (f : Fault) → ((by : Bound) × Literal-passes b used s t by) ⊎ ((by : Bound) → Literal-passes b used s t by → ⊥) → Found n used (spoils s t f)
+    spoils-decided f (inl (w, x)) = here (an-unlisted x)
+    spoils-decided f (inr never) = last not-here (λ e bs rest. elim [ ])
+      where
+        not-here : (to : Bound) (q : Position) → Passes b n used (spoils s t f) to q → ⊥
+        not-here to q (an-unlisted x) = never _ x
+
+    reads-decided : (k : ℕ) (r : Reading) → ((by : Bound) × Literal-passes b used s t by) ⊎ ((by : Bound) → Literal-passes b used s t by → ⊥)
+        → (o : Outcome) → final t ≡ o → (x : Bool) → ltb n (b .entries) ≡ x → Found (n + 1) (used + length (bytes t)) r → Found n used (reads k s t r)
+    reads-decided k r (inl (w, x)) o q y h ih = here (a-literal x)
+    reads-decided k r (inr never) (bad f) q y h ih = last not-here not-next
+      where
+        not-good : {e : End} → final t ≡ good e → ⊥
+        not-good g = let z : good _ ≡ bad f = sym g ∙ q in absurd (let q : _≡_ {A = ℕ} 0 1 = cc in omega arith)
+
+        not-here : (to : Bound) (p : Position) → Passes b n used (reads k s t r) to p → ⊥
+        not-here to p (a-literal x) = never _ x
+        not-here to p (its-entry x g l) = not-good g
+
+        not-next : (e : Entry) (bs : List ℕ) (rest : Reading) → Next used (reads k s t r) e bs rest → ⊥
+        not-next e bs rest (read-well g) = not-good g
+    reads-decided k r (inr never) (good e) q false h ih = here (its-entry never q (ltb-false _ _ h))
+    reads-decided k r (inr never) (good e) q true h ih = further (read-well q) not-here same ih
+      where
+        not-here : (to : Bound) (p : Position) → Passes b n used (reads k s t r) to p → ⊥
+        not-here to p (a-literal x) = never _ x
+        not-here to p (its-entry x g l) = absurd (omega (arith, l, ltb-true n (b .entries) h))
+
+        same : (e′ : Entry) (cs : List ℕ) (rest′ : Reading) → Next used (reads k s t r) e′ cs rest′ → (cs ≡ bytes t) × (rest′ ≡ r)
+        same e′ cs rest′ (read-well g) = (refl, refl)
+
+  lists-decided : (n used k : ℕ) (p : Position) (q : Part) (r : Reading) → (x : Bool) → ltb n (b .entries) ≡ x → Found (n + 1) (used + length {A = ℕ} []) r → Found n used (lists k p q r)
+  lists-decided n used k p q r false h ih = here (an-entry (ltb-false _ _ h))
+  lists-decided n used k p q r true h ih = further a-part not-here same ih
+    where
+      not-here : (to : Bound) (p′ : Position) → Passes b n used (lists k p q r) to p′ → ⊥
+      not-here to p′ (an-entry l) = absurd (omega (arith, l, ltb-true n (b .entries) h))
+
+      same : (e′ : Entry) (cs : List ℕ) (rest′ : Reading) → Next used (lists k p q r) e′ cs rest′ → (cs ≡ []) × (rest′ ≡ r)
+      same e′ cs rest′ a-part = (refl, refl)
+
+  decided : (n used : ℕ) (r : Reading) → Found n used r
+  decided n used (over p) = last (λ to q. elim [ ]) (λ e bs rest. elim [ ])
+  decided n used (halts f) = last (λ to q. elim [ ]) (λ e bs rest. elim [ ])
+  decided n used (spoils s t f) = spoils-decided n used s t f (literal-decided b used s t)
+  decided n used (lists k p q r) = lists-decided n used k p q r (ltb n (b .entries)) refl (decided (n + 1) (used + length {A = ℕ} []) r)
+  decided n used (reads k s t r) = reads-decided n used s t k r (literal-decided b used s t) (final t) refl (ltb n (b .entries)) refl (decided (n + 1) (used + length (bytes t)) r)
+
+pub stops-there : Stops-there
+stops-there b r fair x = there b fair (x .first)
+
+pub whole-else : Whole-else
+whole-else b r never = all b 0 0 r never
+
+pub first-decided : (b : Bounds) (r : Reading) → First-past b 0 0 r ⊎ (First-past b 0 0 r → ⊥)
+first-decided b r = decided b 0 0 r
+
+-- ---- 7, 9 and 10
+caused-not-own {ℓ} : {A : Type ℓ} (f : Fault) → Caused f → Own f → A
+caused-not-own f (inl e) own = absurd (own .0 e)
+caused-not-own f (inr (inl e)) own = absurd (own .1 e)
+caused-not-own f (inr (inr e)) own = absurd (own .2 e)
+
+-- where nothing cuts, a run ends by a rule of its own
+stop-own : (g : Fault) → Own g → Ends-own (ended (Stop g))
+stop-own g own f h = rw (← stop-is h) own
+
+end-own : (start : Position) (t : Trace) → Sevens start t → (o : Outcome) → final t ≡ o → (l : Left) → Ends-own l → Ends-own (onEnd o l)
+end-own start t sv (good e) h l own = own
+end-own start t sv (bad g) h l own = stop-own (g .fault) (own-refusal start t g sv h)
+
+pub whole-own : (used : ℕ) (r : Reading) → Fair r → Ends-own (whole used r)
+unfolding whole
+whole-own used (over p) fair = λ f h. absurd (let q : _≡_ {A = ℕ} 0 1 = cc in omega arith)
+whole-own used (halts g) fair = stop-own g fair
+whole-own used (spoils s t g) fair = end-own (s .place) t (fair .0) (final t) refl _ (stop-own g (fair .1))
+whole-own used (lists k p q r) fair = whole-own used r fair
+whole-own used (reads k s t r) fair = end-own (s .place) t (fair .0) (final t) refl _ (whole-own (used + length (bytes t)) r (fair .1))
+
+pub only-there : Only-there
+only-there b r f fair h caused = by (first-decided b r)
+  where
+    by : First-past b 0 0 r ⊎ (First-past b 0 0 r → ⊥) → First-past b 0 0 r
+    by (inl x) = x
+    by (inr never) = caused-not-own f caused (whole-own 0 r fair f (rw (whole-else b r never) at h))

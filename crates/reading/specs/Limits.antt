@@ -1,5 +1,5 @@
--- Demand 3 for a run: limits only cut. The statements; their proofs are in proofs/Limits.antt.
-use Prim.Native.Nat.{ℕ, _+_, _-_, _≤_, _<_}
+-- What passes a limit or a room in a script's reading, and what the bounds leave of it then. Demand 3 is stated in crate promises, in these words; the proofs are in proofs/Limits.antt.
+use Prim.Native.Nat.{ℕ, _+_, _-_, _≤_}
 use mathlib.Core.List.{List, [], _∷_, _++_}
 use mathlib.Core.Logic.{_⊎_}
 use mathlib.Core.Path.{_≡_}
@@ -7,25 +7,24 @@ use lib.ListN.{length}
 use Rattle.position.specs.declared.Position.{Position}
 use Rattle.fault.specs.declared.Part.{Part}
 use Rattle.fault.specs.declared.Fault.{Fault}
-use Rattle.fault.specs.Faults.{noTokenRoom, Own}
+use Rattle.fault.specs.Faults.{stringTooLong, noLiteralRoom, noTokenRoom, Own}
 use Rattle.chars.specs.declared.cursor.Cursor.{Cursor}
 use Rattle.literal.specs.declared.End.{End}
 use Rattle.literal.specs.declared.Refusal.{Refusal}
-use Rattle.literal.specs.declared.Scanned.the-variants.{Accepted}
-use Rattle.literal.specs.Trace.{Trace, bytes}
-use Rattle.literal.specs.Limits.{Looser, Sevens, Cuts}
+use Rattle.literal.specs.Trace.{Trace, bytes, final, good}
+use Rattle.literal.specs.Limits.{Looser, Sevens, Bound, string-limit, literal-room, token-room, Cuts}
 use Rattle.reading.specs.declared.Entry.{Entry}
 use Rattle.reading.specs.Reading.{Reading, over, halts, spoils, lists, reads, entry, Left, whole}
-use Rattle.reading.specs.CutRun.{Bounds, full, scanned, cutRun}
+use Rattle.reading.specs.CutRun.{Bounds, full, cutRun}
 use Rattle.reading.specs.declared.Ending.the-variants.{Stop}
 
 -- in a script's reading, as in its literals', only a test of the limit is 7, and no rule of its own is 7, 9 or 10
 abbrev pub Fair : Reading → Type 0
 Fair (over p) = Unit {0}
 Fair (halts f) = Own f
-Fair (spoils s t f) = Sevens t × Own f
+Fair (spoils s t f) = Sevens (s .place) t × Own f
 Fair (lists k p q r) = Fair r
-Fair (reads k s t r) = Sevens t × Fair r
+Fair (reads k s t r) = Sevens (s .place) t × Fair r
 
 -- the bounds c are nowhere stricter than b
 abbrev pub Wider : Bounds → Bounds → Type 0
@@ -38,7 +37,73 @@ pub record Begins (l m : Left) : Type 0 where
   pub beyond : List ℕ
   pub literals : m .packed ≡ l .packed ++ beyond
 
--- a run lists the first tokens of the unlimited rules, with their bytes
+-- a run's ending is caused by no limit and no room
+abbrev pub Ends-own : Left → Type 0
+Ends-own l = (f : Fault) → l .ending ≡ Stop f → Own f
+
+-- a fault that a limit or a room causes: 7, 9 or 10
+abbrev pub Caused : Fault → Type 0
+Caused f = (f .number ≡ 7) ⊎ (f .number ≡ 9) ⊎ (f .number ≡ 10)
+
+-- ---- the token that passes
+-- document 01's refusal for a token that passes a bound, at the token's start: 7, 9 or 10
+abbrev pub refusedBy : Bound → Position → Fault
+refusedBy string-limit p = stringTooLong p
+refusedBy literal-room p = noLiteralRoom p
+refusedBy token-room p = noTokenRoom p
+
+-- the reading of a literal from a cursor, finished or not, passes the limit or the literal room, where so many literal bytes are used
+abbrev pub Literal-passes : Bounds → ℕ → Cursor → Trace → Bound → Type 0
+Literal-passes b used s t by = (f : Refusal) × Cuts (full s) (b .limit) (b .literals - used) 0 t by f
+
+-- the next token of a reading passes a bound, where n entries are listed and so many literal bytes used; and the place where it starts
+pub data Passes (b : Bounds) (n used : ℕ) : Reading → Bound → Position → Type 0 where
+  -- a literal
+  a-literal : {k : ℕ} {s : Cursor} {t : Trace} {r : Reading} {by : Bound} → Literal-passes b used s t by → Passes b n used (reads k s t r) by (s .place)
+  -- a literal that is not listed, for a fault in it or behind it
+  an-unlisted : {s : Cursor} {t : Trace} {f : Fault} {by : Bound} → Literal-passes b used s t by → Passes b n used (spoils s t f) by (s .place)
+  -- the entry of a literal that is read without fault and passes neither
+  its-entry : {k : ℕ} {s : Cursor} {t : Trace} {r : Reading} {e : End}
+      → ((by : Bound) → Literal-passes b used s t by → ⊥) → final t ≡ good e → b .entries ≤ n → Passes b n used (reads k s t r) token-room (s .place)
+  -- the entry of a token that is a part of the script
+  an-entry : {k : ℕ} {p : Position} {q : Part} {r : Reading} → b .entries ≤ n → Passes b n used (lists k p q r) token-room p
+
+-- the next token of a reading by the unlimited rules, where so many literal bytes are used: its entry, its literal bytes, and the reading behind it
+pub data Next (used : ℕ) : Reading → Entry → List ℕ → Reading → Type 0 where
+  a-part : {k : ℕ} {p : Position} {q : Part} {r : Reading} → Next used (lists k p q r) (entry k p (q .at) (q .len)) [] r
+  read-well : {k : ℕ} {s : Cursor} {t : Trace} {r : Reading} {e : End} → final t ≡ good e → Next used (reads k s t r) (entry k (s .place) used (length (bytes t))) (bytes t) r
+
+-- the first token that passes, where n entries are listed and so many literal bytes used: the entries and the literal bytes of the tokens before it, what it passes, and where it starts
+pub data First (b : Bounds) : ℕ → ℕ → Reading → List Entry → List ℕ → Bound → Position → Type 0 where
+  this-one : {n used : ℕ} {r : Reading} {by : Bound} {p : Position} → Passes b n used r by p → First b n used r [] [] by p
+  behind : {n used : ℕ} {r rest : Reading} {e : Entry} {bs : List ℕ} {es : List Entry} {cs : List ℕ} {by : Bound} {p : Position}
+      → Next used r e bs rest → ((to : Bound) (q : Position) → Passes b n used r to q → ⊥) → First b (n + 1) (used + length bs) rest es cs by p → First b n used r (e ∷ es) (bs ++ cs) by p
+
+pub record First-past (b : Bounds) (n used : ℕ) (r : Reading) : Type 0 where
+  pub entries : List Entry
+  pub literals : List ℕ
+  pub bound : Bound
+  pub place : Position
+  pub first : First b n used r entries literals bound place
+
+-- what a run leaves that stops there
+abbrev pub stopped : List Entry → List ℕ → Bound → Position → Left
+stopped es bs by p = record { listed = es; packed = bs; ending = Stop (refusedBy by p) }
+
+-- ---- what the bounds leave
+-- where a token passes, what is before the first such token, and its refusal
+abbrev pub Stops-there : Type 0
+Stops-there = (b : Bounds) (r : Reading) → Fair r → (x : First-past b 0 0 r) → cutRun b 0 0 r ≡ stopped (x .entries) (x .literals) (x .bound) (x .place)
+
+-- where none passes, everything
+abbrev pub Whole-else : Type 0
+Whole-else = (b : Bounds) (r : Reading) → (First-past b 0 0 r → ⊥) → cutRun b 0 0 r ≡ whole 0 r
+
+-- 7, 9 and 10 come only where a token passes
+abbrev pub Only-there : Type 0
+Only-there = (b : Bounds) (r : Reading) (f : Fault) → Fair r → cutRun b 0 0 r .ending ≡ Stop f → Caused f → First-past b 0 0 r
+
+-- the first tokens of the unlimited rules, with their bytes
 abbrev pub Lists-the-first : Type 0
 Lists-the-first = (b : Bounds) (r : Reading) → Begins (cutRun b 0 0 r) (whole 0 r)
 
@@ -48,31 +113,4 @@ Repeats = (b c : Bounds) (r : Reading) → Wider b c → Begins (cutRun b 0 0 r)
 
 -- an ending that no limit and no room causes recurs whole
 abbrev pub Recurs : Type 0
-Recurs = (b c : Bounds) (r : Reading) → Fair r → Wider b c → ((f : Fault) → cutRun b 0 0 r .ending ≡ Stop f → Own f) → cutRun c 0 0 r ≡ cutRun b 0 0 r
-
--- and it is the ending of the unlimited rules
-abbrev pub Is-whole : Type 0
-Is-whole = (b : Bounds) (r : Reading) → Fair r → ((f : Fault) → cutRun b 0 0 r .ending ≡ Stop f → Own f) → cutRun b 0 0 r ≡ whole 0 r
-
--- the first token whose reading passes a limit or a room, where n entries are listed and so many literal bytes used: the entries before it, and the fault
-pub data Passes (b : Bounds) : ℕ → ℕ → Reading → List Entry → Fault → Type 0 where
-  a-literal : {n used k : ℕ} {s : Cursor} {t : Trace} {r : Reading} {f : Refusal}
-      → Cuts (full s) (b .limit) (b .literals - used) 0 t f → Passes b n used (reads k s t r) [] (f .fault)
-  an-unlisted : {n used : ℕ} {s : Cursor} {t : Trace} {g : Fault} {f : Refusal}
-      → Cuts (full s) (b .limit) (b .literals - used) 0 t f → Passes b n used (spoils s t g) [] (f .fault)
-  its-entry : {n used k m : ℕ} {s : Cursor} {t : Trace} {r : Reading} {e : End}
-      → scanned b used s t ≡ Accepted e m → b .entries ≤ n → Passes b n used (reads k s t r) [] (noTokenRoom (s .place))
-  an-entry : {n used k : ℕ} {p : Position} {q : Part} {r : Reading} → b .entries ≤ n → Passes b n used (lists k p q r) [] (noTokenRoom p)
-  behind-it : {n used k m : ℕ} {s : Cursor} {t : Trace} {r : Reading} {e : End} {es : List Entry} {f : Fault}
-      → scanned b used s t ≡ Accepted e m → n < b .entries → Passes b (n + 1) (used + m) r es f → Passes b n used (reads k s t r) (entry k (s .place) used m ∷ es) f
-  behind : {n used k : ℕ} {p : Position} {q : Part} {r : Reading} {es : List Entry} {f : Fault}
-      → n < b .entries → Passes b (n + 1) used r es f → Passes b n used (lists k p q r) (entry k p (q .at) (q .len) ∷ es) f
-
--- 7, 9 and 10 come at the first token whose reading passes, and the entries are exactly those before it
-abbrev pub Stops-at-the-first : Type 0
-Stops-at-the-first =
-    (b : Bounds) (r : Reading) (f : Fault)
-    → Fair r
-    → cutRun b 0 0 r .ending ≡ Stop f
-    → (f .number ≡ 7) ⊎ (f .number ≡ 9) ⊎ (f .number ≡ 10)
-    → Passes b 0 0 r (cutRun b 0 0 r .listed) f
+Recurs = (b c : Bounds) (r : Reading) → Fair r → Wider b c → Ends-own (cutRun b 0 0 r) → cutRun c 0 0 r ≡ cutRun b 0 0 r

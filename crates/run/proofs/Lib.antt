@@ -1,3 +1,3 @@
 pub mod Finishes
 pub mod Runs
-pub mod Limits
+pub mod Fair

@@ -1,4 +1,4 @@
--- In a script's reading only a test of the limit is 7, and no rule of its own is 7, 9 or 10. Assumes nothing.
+-- In a script's reading only a test of the limit is 7, at its literal's start, and no rule of its own is 7, 9 or 10. Assumes nothing.
 use Prim.Native.Nat.{ℕ, zero, suc, _+_, _-_, _≤_}
 use native.Mathlib.Omega.{arith}
 use mathlib.Core.Bool.{Bool}
@@ -39,7 +39,7 @@ use Rattle.script.specs.Script.{onStep, readingFrom, scriptFrom}
 abbrev Fair-note : Note → Type 0
 Fair-note nothing = Unit {0}
 Fair-note (token k p q) = Unit {0}
-Fair-note (literal k from x) = Sevens x
+Fair-note (literal k from x) = Sevens (from .place) x
 
 abbrev Fair-step : Step → Type 0
 Fair-step (on x s) = Fair-note x
@@ -82,13 +82,13 @@ module _ (k level : ℕ) (from : Cursor) (e : End) (body : List ℕ) where
       by n (inr h) z = eleven n h (faultOf n from e) (fault-number n)
 
 module _ (t book : List ℕ) where
-  trace-sevens : (k : ℕ) (from : Cursor) → Sevens (traceOf t k from)
+  trace-sevens : (k : ℕ) (from : Cursor) → Sevens (from .place) (traceOf t k from)
   unfolding traceOf
-  trace-sevens k from = pick-cases Sevens (eqb k Find.raw) _ _ (λ y. read-sevens asSource t from 0) (λ n. reading-sevens isWhite t (terminatorOf k) from)
+  trace-sevens k from = pick-cases (Sevens (from .place)) (eqb k Find.raw) _ _ (λ y. read-sevens asSource t from 0) (λ n. reading-sevens isWhite t (terminatorOf k) from)
 
-  ended-fair : (k : ℕ) (from : Cursor) (x : Trace) (s : State) → Sevens x → (o : Outcome) → final x ≡ o → Fair-step (onEnd k from x s o)
+  ended-fair : (k : ℕ) (from : Cursor) (x : Trace) (s : State) → Sevens (from .place) x → (o : Outcome) → final x ≡ o → Fair-step (onEnd k from x s o)
   unfolding listedOf
-  ended-fair k from x s sv (bad f) h = (sv, own-refusal x f sv h)
+  ended-fair k from x s sv (bad f) h = (sv, own-refusal (from .place) x f sv h)
   ended-fair k from x s sv (good e) h =
       pick-cases Fair-step (eqb (wrongOf k (s .level) e (bytes x)) 0) _ _
       (λ y. pick-cases Fair-step (e .interpolated) _ _ (λ i. sv) (λ i. sv))

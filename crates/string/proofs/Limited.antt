@@ -3,7 +3,6 @@ use Prim.Native.Nat.{ℕ, _≤_}
 use native.Mathlib.Omega.{arith}
 use mathlib.Core.Bool.{false}
 use mathlib.Core.List.{List}
-use mathlib.Core.Logic.{_⊎_}
 use mathlib.Core.Path.{_≡_, refl}
 use lib.Dec.{eqb, ltb}
 use lib.ListN.{length}
@@ -17,7 +16,7 @@ use Rattle.white.specs.White.{isWhite}
 use Rattle.literal.specs.Trace.{bytes, final, good, passes}
 use Rattle.literal.specs.Cut.{answer}
 use Rattle.literal.specs.Told.{number}
-use Rattle.literal.specs.Limits.{Sevens, Looser, Cuts}
+use Rattle.literal.specs.Limits.{Sevens, Looser, string-limit, literal-room, Cuts}
 use Rattle.literal.specs.declared.End.{End}
 use Rattle.literal.specs.declared.Refusal.{Refusal}
 use Rattle.literal.specs.declared.Scanned.the-variants.{Accepted, Refused}
@@ -49,11 +48,11 @@ argument-small : (t : List ℕ) (at : ℕ) (p : Position) (q : ℕ) → argument
 unfolding argumentOf small
 argument-small t at p q = pick-cases small (eqb (doorOf t at) 0) _ _ (λ _. start-small p q) (λ _. door-small t at)
 
-pub trace-sevens : (t : List ℕ) (at : ℕ) (p : Position) (q : ℕ) → Sevens (traceOf t at p q)
+pub trace-sevens : (t : List ℕ) (at : ℕ) (p : Position) (q : ℕ) → Sevens p (traceOf t at p q)
 unfolding traceOf argumentAt
 trace-sevens t at p q =
     let h = argument-small t at p q in
-    pick-cases Sevens (eqb (argumentOf t at p q) 0) _ _
+    pick-cases (Sevens p) (eqb (argumentOf t at p q) 0) _ _
     (λ _. reading-sevens isWhite t q (cursor at p))
     (λ _. (λ e. omega arith, λ e. omega arith, λ e. omega arith))
 
@@ -75,10 +74,11 @@ module _ (t : List ℕ) (at : ℕ) (p : Position) (q : ℕ) where
   pub scan-recurs : (l m r s : ℕ) → Looser l m → r ≤ s → (number (scanOf t at p q l r) ≡ 7 → ⊥) → (number (scanOf t at p q l r) ≡ 9 → ⊥)
       → scanOf t at p q m s ≡ scanOf t at p q l r
   unfolding scanOf fullAt
-  scan-recurs l m r s o h x y = recurs-whole (fullAt (cursor at p)) l m r s (traceOf t at p q) refl (trace-sevens t at p q) o h x y
+  scan-recurs l m r s o h x y = recurs-whole (fullAt (cursor at p)) l m r s p (traceOf t at p q) refl (trace-sevens t at p q) o h x y
 
-  -- 7 or 9 comes at the first step that passes, and only there
-  pub scan-cut : (limit room : ℕ) (f : Refusal) → scanOf t at p q limit room ≡ Refused f → (f .fault .number ≡ 7) ⊎ (f .fault .number ≡ 9)
-      → Cuts (fullAt (cursor at p)) limit room 0 (traceOf t at p q) f
-  unfolding scanOf
-  scan-cut limit room f h n = cut-at-the-first (fullAt (cursor at p)) limit room (traceOf t at p q) f (trace-sevens t at p q) h n
+  -- 7 comes at the first test that finds more than the limit, 9 at the first step that passes the room, and only there
+  pub scan-cut : (limit room : ℕ) (f : Refusal) → scanOf t at p q limit room ≡ Refused f
+      → (f .fault .number ≡ 7 → Cuts (fullAt (cursor at p)) limit room 0 (traceOf t at p q) string-limit f)
+      × (f .fault .number ≡ 9 → Cuts (fullAt (cursor at p)) limit room 0 (traceOf t at p q) literal-room f)
+  unfolding scanOf fullAt
+  scan-cut limit room f h = cut-at-the-first (fullAt (cursor at p)) limit room p (traceOf t at p q) f refl (trace-sevens t at p q) h

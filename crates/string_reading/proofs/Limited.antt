@@ -1,4 +1,4 @@
--- Demand 3 for the reading of a string literal: its limits are 7, and its own refusals are not 7, 9 or 10. Assumes nothing.
+-- Demand 3 for the reading of a string literal: its limits are 7 at its start, and its own refusals are not 7, 9 or 10. Assumes nothing.
 use Prim.Native.Nat.{ℕ, zero, suc, _+_, _-_}
 use mathlib.Core.Bool.{Bool}
 use mathlib.Core.List.{List, [], _∷_}
@@ -26,13 +26,13 @@ use Rattle.string_act.proofs.Reaching.{Steps, act-steps}
 use Rattle.string_reading.specs.Ends.{tooLongAt, lastOf}
 use Rattle.string_reading.specs.Scans.{onGot, onStep, turnOf, rule, begun, readingOf}
 
-last-sevens : (start : Position) (last : Last) → Fair last → Sevens (lastOf start last)
+last-sevens : (start : Position) (last : Last) → Fair last → Sevens start (lastOf start last)
 unfolding lastOf tooLongAt
 last-sevens start (Good e) p = (refl, tt)
 last-sevens start (Bad f) p = p
 
 module _ (white : ℕ → Bool) (t : List ℕ) (q : ℕ) (start : Position) where
-  run-sevens : (k : ℕ) (cs : List Ch) (at : ℕ) (s : State) → Sevens (run (rule white t q start) k cs at s)
+  run-sevens : (k : ℕ) (cs : List Ch) (at : ℕ) (s : State) → Sevens start (run (rule white t q start) k cs at s)
   unfolding run rule turnOf yields tooLongAt
   run-sevens k [] at s = last-sevens start (endOf q start at s) (end-fair q start at s)
   run-sevens (suc k) (c ∷ cs) at s = run-sevens k cs (at + c .width) s
@@ -41,14 +41,14 @@ module _ (white : ℕ → Bool) (t : List ℕ) (q : ℕ) (start : Position) wher
       on : ℕ → State → Trace
       on k r = run (rule white t q start) k cs (at + c .width) r
 
-      acted : (here : Cursor) (x : Step) → Steps t (here .at) x → ((k : ℕ) (r : State) → Sevens (on k r))
-          → Sevens (onTurn (onStep x (λ d next r. go (tested (tooLongAt start here (once q)) ∷ added (encoded d) ∷ []) (length (c ∷ cs) - suc (length (charsAt t next))) r)
+      acted : (here : Cursor) (x : Step) → Steps t (here .at) x → ((k : ℕ) (r : State) → Sevens start (on k r))
+          → Sevens start (onTurn (onStep x (λ d next r. go (tested (tooLongAt start here (once q)) ∷ added (encoded d) ∷ []) (length (c ∷ cs) - suc (length (charsAt t next))) r)
           (λ last. stop (checks (tooLongAt start here (once q)) (lastOf start last)))) (λ n k r. yields n (on k r)) (λ r. r))
       acted here (step.Go d next r) p ih = (refl, ih (suc (length cs) - suc (length (charsAt t next))) r)
       acted here (step.Over last) p ih = (refl, last-sevens start last p)
 
-      taken : (x : Got) → Gets t at x → ((k : ℕ) (r : State) → Sevens (on k r))
-          → Sevens (onTurn (onGot x
+      taken : (x : Got) → Gets t at x → ((k : ℕ) (r : State) → Sevens start (on k r))
+          → Sevens start (onTurn (onGot x
           (λ d here. onStep (actOf white t q start d here s)
           (λ d next r. go (tested (tooLongAt start here (once q)) ∷ added (encoded d) ∷ []) (length (c ∷ cs) - suc (length (charsAt t next))) r)
           (λ last. stop (checks (tooLongAt start here (once q)) (lastOf start last))))
@@ -56,6 +56,6 @@ module _ (white : ℕ → Bool) (t : List ℕ) (q : ℕ) (start : Position) wher
       taken (got.Char d here) p ih = acted here (actOf white t q start d here s) (act-steps t white q start d here s) ih
       taken (got.Over last) p ih = last-sevens start last p
 
-pub reading-sevens : (white : ℕ → Bool) (t : List ℕ) (q : ℕ) (from : Cursor) → Sevens (readingOf white t q from)
+pub reading-sevens : (white : ℕ → Bool) (t : List ℕ) (q : ℕ) (from : Cursor) → Sevens (from .place) (readingOf white t q from)
 unfolding readingOf runAt
 reading-sevens white t q from = run-sevens white t q (from .place) 0 (charsAt t (from .at)) (from .at) (begun (from .place))

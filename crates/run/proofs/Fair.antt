@@ -1,4 +1,4 @@
--- Demand 3 for a run. Assumes nothing.
+-- The reading of any script under any book is fair: in it only a test of the limit is 7, and no rule of its own is 7, 9 or 10. Assumes nothing.
 use Prim.Native.Nat.{ℕ, _≤_}
 use native.Mathlib.Omega.{arith}
 use mathlib.Core.List.{List}
@@ -6,20 +6,17 @@ use mathlib.Core.Logic.{_⊎_, inl, inr}
 use mathlib.Core.Path.{_≡_}
 use lib.Dec.{eqb, ltb}
 use lib.ListN.{length}
-use Rattle.basis.specs.Pick.{pick}
 use Rattle.basis.proofs.Cases.{pick-cases}
 use Rattle.position.specs.Place.{start}
 use Rattle.fault.specs.Faults.{fault, Own}
 use Rattle.utf8.specs.Table.{well}
 use Rattle.book.specs.Book.{good, checkOf}
 use Rattle.reading.specs.Limits.{Fair}
-use Rattle.reading.proofs.Limits.{lists-the-first, repeats, recurs, is-whole, stops-at-the-first}
 use Rattle.script.specs.Script.{scriptOf}
 use Rattle.script.specs.States.{begun}
 use Rattle.script.proofs.Fair.{script-fair}
 use Rattle.run_door.specs.Door.{refusesOf}
-use Rattle.run.specs.Run.{readingOf, runOf}
-use Rattle.run.specs.Limits.{Limits-only-cut}
+use Rattle.run.specs.Run.{readingOf}
 
 -- what is refused at the door is 1, 2 or 14
 abbrev Early : ℕ → Type 0
@@ -38,13 +35,3 @@ early-own n (inr h) = (λ z. omega arith, λ z. omega arith, λ z. omega arith)
 pub reading-fair : (t book : List ℕ) → Fair (readingOf t book)
 unfolding readingOf scriptOf
 reading-fair t book = pick-cases Fair (eqb (refusesOf t book) 0) _ _ (λ y. script-fair t book begun) (λ n. early-own (refusesOf t book) (door-early t book))
-
-pub limits-only-cut : (t book : List ℕ) → Limits-only-cut t book
-unfolding runOf
-limits-only-cut t book = record {
-  lists-the-first = λ b. lists-the-first b (readingOf t book);
-  repeats = λ b c w. repeats b c (readingOf t book) w;
-  recurs = λ b c w own. recurs b c (readingOf t book) (reading-fair t book) w own;
-  is-whole = λ b own. is-whole b (readingOf t book) (reading-fair t book) own;
-  stops-at-the-first = λ b f h z. stops-at-the-first b (readingOf t book) f (reading-fair t book) h z;
-}

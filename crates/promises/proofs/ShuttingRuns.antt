@@ -1,0 +1,104 @@
+-- The theorem Shuts-out-runs of specs/Limits.antt, by two literals. Assumes nothing.
+use Prim.Native.Nat.{ℕ}
+use native.Mathlib.Omega.{arith}
+use mathlib.Core.List.{List, [], _∷_, _++_}
+use mathlib.Core.Logic.{inr}
+use mathlib.Core.Path.{_≡_, refl, sym, ap, _∙_}
+use lib.ListN.{length, getD}
+use borrow.Author.Tests.{eq-eqb}
+use Rattle.basis.specs.Words.{word}
+use Rattle.position.specs.Place.{place}
+use Rattle.fault.specs.Faults.{noTokenRoom}
+use Rattle.utf8.specs.Table.{look, wellFrom, well}
+use Rattle.chars.specs.Cursors.{cursor}
+use Rattle.book.specs.Book as Book
+use Rattle.contents.specs.Contents as Contents
+use Rattle.reading.specs.Reading.{Left, entry}
+use Rattle.reading.specs.CutRun.{Bounds, cutRun}
+use Rattle.reading.specs.declared.Ending.the-variants.{Stop}
+use Rattle.script.specs.Script.{scriptOf}
+use Rattle.script.specs.Steps.{traceOf}
+use Rattle.script.proofs.Examples.{worked}
+use Rattle.run_door.specs.Door.{refusesOf}
+use Rattle.run.specs.Run.{readingOf}
+use Rattle.run.proofs.Runs.{run-read}
+use Rattle.promises.specs.Limits.{Runs, Meets, Never-stops, Forgets-bytes, One-literal, Fakes-the-rest, Miscounts, Shuts-out-runs}
+use Rattle.promises.proofs.Limits.{no-other}
+
+abbrev empty : List ℕ
+empty = 0 ∷ 0 ∷ []
+
+-- a literal, and two that may stand behind it
+abbrev a : List ℕ
+a = word "\"a\""
+
+abbrev b : List ℕ
+b = word " \"b\""
+
+abbrev c : List ℕ
+c = word " \"c\""
+
+-- no limit, room for two literal bytes, and so many entries
+abbrev room : ℕ → Bounds
+room n = record { limit = 0; literals = 2; entries = n }
+
+-- the door lets a script in
+abbrev Enters : List ℕ → Type 0
+Enters script = refusesOf script empty ≡ 0
+
+enters : Enters a × Enters (a ++ b) × Enters (a ++ c)
+unfolding word refusesOf look wellFrom well Book.few Book.runsOn Book.allFit Book.rising Book.good Book.checkOf Contents.u16At Contents.count Contents.wordsFrom Contents.words Contents.enough
+enters = (refl, refl, refl)
+
+one : One-literal a empty
+unfolding readingOf
+one = record {
+  kind = 5;
+  from = cursor 1 (place 1 1);
+  trace = traceOf a 5 (cursor 1 (place 1 1));
+  end = place 1 3;
+  is-read = rw (eq-eqb (refusesOf a empty) 0 (enters .0)) (worked .one-literal);
+}
+
+module _ (runs : Runs) (demand : Meets runs) where
+  -- what such runs leave is what ours leave
+  leaves : (script : List ℕ) (x : Bounds) → Enters script → runs script empty x ≡ cutRun x 0 0 (scriptOf script empty)
+  leaves script x e = no-other script empty (runs script empty) (demand script empty) x ∙ run-read x script empty e
+
+  both-b : runs (a ++ b) empty (room 2) .packed ≡ word "ab"
+  unfolding word
+  both-b = ap (λ (l : Left). l .packed) (leaves (a ++ b) (room 2) (enters .1) ∙ worked .two-literals)
+
+  both-c : runs (a ++ c) empty (room 2) .packed ≡ word "ac"
+  unfolding word
+  both-c = ap (λ (l : Left). l .packed) (leaves (a ++ c) (room 2) (enters .2) ∙ worked .two-others)
+
+  -- one entry for two literals
+  first-alone : runs (a ++ b) empty (room 1) ≡ record { listed = entry 5 (place 1 1) 0 1 ∷ []; packed = word "a"; ending = Stop (noTokenRoom (place 1 5)) }
+  unfolding word
+  first-alone = leaves (a ++ b) (room 1) (enters .1) ∙ worked .no-entry-left
+
+  is-stopped : runs (a ++ b) empty (room 1) .ending ≡ Stop (noTokenRoom (place 1 5))
+  is-stopped = ap (λ (l : Left). l .ending) first-alone
+
+  never-stops : Never-stops runs → ⊥
+  never-stops h = h (a ++ b) empty (room 1) (noTokenRoom (place 1 5)) is-stopped .2 refl
+
+  forgets-bytes : Forgets-bytes runs → ⊥
+  unfolding word
+  forgets-bytes h =
+      let z = sym (h (a ++ b) empty (room 1) (noTokenRoom (place 1 5)) is-stopped (inr (inr refl))) ∙ ap (λ (l : Left). l .packed) first-alone in
+      let n : _≡_ {A = ℕ} 0 1 = ap (λ (l : List ℕ). length l) z in omega arith
+
+  fakes-the-rest : (fake : List ℕ → ℕ → List ℕ → Bounds → Left) → Fakes-the-rest runs fake → ⊥
+  unfolding word
+  fakes-the-rest fake h =
+      let same : runs (a ++ b) empty (room 2) ≡ runs (a ++ c) empty (room 2) = h a b empty (room 2) one ∙ sym (h a c empty (room 2) one) in
+      let z = sym both-b ∙ ap (λ (l : Left). l .packed) same ∙ both-c in
+      let n : _≡_ {A = ℕ} 0x62 0x63 = ap (λ (l : List ℕ). getD l 1 0) z in omega arith
+
+  miscounts : Miscounts runs → ⊥
+  miscounts h = h .off (ap (λ (l : Left). length (l .listed)) (no-other (h .script) (h .book) (runs (h .script) (h .book)) (demand (h .script) (h .book)) (h .bounds)))
+
+pub shuts-out-runs : Shuts-out-runs
+shuts-out-runs runs demand = (never-stops runs demand, forgets-bytes runs demand, fakes-the-rest runs demand, miscounts runs demand)
