@@ -5,8 +5,8 @@ use mathlib.Core.List.{List}
 use mathlib.Core.Path.{_≡_, refl}
 use Rattle.lent.specs.declared.Written.{Written}
 use Rattle.lent.specs.declared.Written.the-variants.{Done, Refused}
-use Rattle.numbers.specs.Spell.{spell}
-use Rattle.numbers.proofs.Whole.{value, spell-tells}
+use Rattle.numbers.specs.Spell.{spell, value}
+use Rattle.numbers.proofs.Whole.{spell-tells}
 use Rattle.writer.specs.Writer.{rawWriteOf}
 use Rattle.writer.proofs.Writes.{written-short}
 use Rattle.c_writer.specs.Export.{writtenLength}

@@ -1,18 +1,13 @@
 -- Bytes that hold a number tell it, and worked examples of the definitions. Assumes nothing.
-use Prim.Native.Nat.{ℕ, zero, suc, _+_, _*_, _/_, _%_, _^_, _<_}
+use Prim.Native.Nat.{ℕ, zero, suc, _/_, _^_, _<_}
 use native.Mathlib.Omega.{arith}
 use native.Mathlib.Nat.{pow-suc, div-lt-iff-lt-mul}
-use mathlib.Core.List.{List, [], _∷_}
+use mathlib.Core.List.{[], _∷_}
 use mathlib.Core.Path.{_≡_, refl}
 use lib.ListN.{replicate}
 use Rattle.lent.specs.Written.{leftOf}
-use Rattle.numbers.specs.Spell.{spell, spelled}
+use Rattle.numbers.specs.Spell.{spell, spelled, value}
 use Rattle.numbers.specs.Answer.{short, returned, answered}
-
--- the number that little-endian bytes are
-pub value : List ℕ → ℕ
-value [] = 0
-value (b ∷ bs) = b + value bs * 256
 
 -- w bytes tell each number that they can hold
 pub spell-tells : (w n : ℕ) → n < 256 ^ w → value (spell w n) ≡ n

@@ -1,5 +1,5 @@
 -- Numbers as little-endian bytes, alone and in a row: document 01, "entries cross there as little-endian bytes, four per number".
-use Prim.Native.Nat.{ℕ, zero, suc, _/_, _%_}
+use Prim.Native.Nat.{ℕ, zero, suc, _+_, _*_, _/_, _%_}
 use mathlib.Core.List.{List, [], _∷_, _++_}
 
 -- a number in w bytes, the lowest first; what w bytes cannot hold is left out
@@ -11,3 +11,8 @@ spell (suc w) n = n % 256 ∷ spell w (n / 256)
 unfoldable pub spelled : ℕ → List ℕ → List ℕ
 spelled w [] = []
 spelled w (n ∷ ns) = spell w n ++ spelled w ns
+
+-- the number that little-endian bytes are
+unfoldable pub value : List ℕ → ℕ
+value [] = 0
+value (b ∷ bs) = b + value bs * 256

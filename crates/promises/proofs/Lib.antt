@@ -7,5 +7,6 @@ pub mod Shutting
 pub mod Calls
 pub mod Limits
 pub mod ShuttingRuns
+pub mod RunCalls
 pub mod Examples
 pub mod LargeBodies

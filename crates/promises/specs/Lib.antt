@@ -1,6 +1,7 @@
 pub mod LiteralPlaces
 pub mod RoundTrip
 pub mod Limits
+pub mod RunCalls
 pub mod Rows
 pub mod Table
 pub mod LargeBodies

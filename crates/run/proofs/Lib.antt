@@ -1,3 +1,4 @@
 pub mod Finishes
 pub mod Runs
 pub mod Fair
+pub mod Short

@@ -3,10 +3,10 @@ use Prim.Native.Nat.{ℕ, zero, suc, _+_, _*_, _/_, _≤_, _<_}
 use native.Mathlib.Omega.{arith}
 use native.Mathlib.Nat.{zero-add}
 use mathlib.Core.Bool.{Bool, true, false}
-use mathlib.Core.List.{List, [], _∷_}
+use mathlib.Core.List.{List}
 use mathlib.Core.Path.{_≡_, refl, sym, ap, _∙_}
 use lib.Dec.{eqb}
-use lib.ListN.{length, length-append, getD, replicate, set, length-set}
+use lib.ListN.{length, getD, replicate, set, length-set}
 use lib.Seq.{sets}
 use borrow.Author.Tests.{eq-eqb, ne-eqb}
 use Rattle.basis.specs.Pick.{pick}
@@ -22,6 +22,7 @@ use Rattle.reading.specs.declared.Entry.{Entry}
 use Rattle.reading.specs.declared.Ending.{Ending}
 use Rattle.reading.specs.declared.Ending.the-variants.{Stop}
 use Rattle.reading.proofs.Fits.{Fits, cut-fits}
+use Rattle.reading.proofs.Layouts.{laid-length}
 use Rattle.script.specs.Script.{scriptOf, scriptFrom}
 use Rattle.script.specs.States.{begun, Fine}
 use Rattle.run_turn.proofs.Makes.{Stands, left}
@@ -33,11 +34,6 @@ use Rattle.run.proofs.Finishes.{Finished, finish, Running}
 pub five : (e : Entry) → length (numbersOf e) ≡ 5
 unfolding numbersOf
 five e = refl
-
-laid-length : (es : List Entry) → length (laidOut numbersOf es) ≡ 5 * length es
-unfolding laidOut
-laid-length [] = refl
-laid-length (e ∷ es) = let h = laid-length es in rw (length-append (numbersOf e) (laidOut numbersOf es), five e) (omega (arith, h))
 
 -- five stores, one behind the other
 pub five-stored : (es : List ℕ) (i : ℕ) (e : Entry)
@@ -71,7 +67,7 @@ entry-next n e = rw (five e) (omega arith)
 
 -- as many as the bounds allow have room
 pub entries-fit : (es : List Entry) (m : ℕ) → length es ≤ m / 5 → length (laidOut numbersOf es) ≤ m
-entries-fit es m h = rw (laid-length es) (omega arith)
+entries-fit es m h = rw (laid-length numbersOf 5 five es) (omega arith)
 
 -- there is room for an entry that the bounds allow
 pub entry-room : (n m : ℕ) → n < m / 5 → 5 * n + 5 ≤ m

@@ -2,8 +2,8 @@
 use Prim.Native.Nat.{ℕ, _+_, _-_, _*_, _/_, _≤_, _<_}
 use native.Mathlib.Omega.{arith}
 use mathlib.Core.List.{List, [], _∷_}
-use mathlib.Core.Path.{_≡_, refl, ap, _∙_}
-use lib.ListN.{length, take, drop, length-append}
+use mathlib.Core.Path.{_≡_}
+use lib.ListN.{length, take, drop}
 use lib.Seq.{sets}
 use borrow.Rule.Slice.PartMut.{putMid}
 use Rattle.position.specs.Place.{lineNumber, columnNumber}
@@ -13,6 +13,7 @@ use Rattle.numbers.specs.Spell.{spelled}
 use Rattle.numbers.proofs.Rows.{length-spelled}
 use Rattle.reading.specs.Entries.{numbersOf, laidOut}
 use Rattle.reading.specs.declared.Entry.{Entry}
+use Rattle.reading.proofs.Layouts.{laid-length}
 use Rattle.run_turn.proofs.Literals.{part-room, part-over}
 use Rattle.run_bytes.specs.Bytes.{bytesOf}
 
@@ -20,18 +21,13 @@ pub twenty : (e : Entry) → length (bytesOf e) ≡ 20
 unfolding bytesOf numbersOf
 twenty e = length-spelled 4 (numbersOf e)
 
-laid-length : (es : List Entry) → length (laidOut bytesOf es) ≡ 20 * length es
-unfolding laidOut
-laid-length [] = refl
-laid-length (e ∷ es) = let h = laid-length es in rw (length-append (bytesOf e) (laidOut bytesOf es), twenty e) (omega (arith, h))
-
 -- the next entry stands behind it
 pub entry-next : (n : ℕ) (e : Entry) → 20 * n + length (bytesOf e) ≡ 20 * (n + 1)
 entry-next n e = rw (twenty e) (omega arith)
 
 -- as many as the bounds allow have room
 pub entries-fit : (es : List Entry) (m : ℕ) → length es ≤ m / 20 → length (laidOut bytesOf es) ≤ m
-entries-fit es m h = rw (laid-length es) (omega arith)
+entries-fit es m h = rw (laid-length bytesOf 20 twenty es) (omega arith)
 
 -- there is room for an entry that the bounds allow
 pub entry-room : (n m : ℕ) → n < m / 20 → 20 * n + 20 ≤ m

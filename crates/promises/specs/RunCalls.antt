@@ -1,0 +1,84 @@
+-- Demand 3 for callers of `run` and `stew_run`: what the memory lent to a call holds then; and of two calls on one script under one book, the second with a limit that is nowhere stricter and with no less memory, what the second repeats of the first. The proofs, from the two contracts, are in proofs/RunCalls.antt.
+use Prim.Native.Nat.{ℕ, _*_, _≤_}
+use mathlib.Core.List.{List}
+use mathlib.Core.Path.{_≡_}
+use lib.ListN.{length, take, drop}
+use Rattle.fault.specs.declared.Fault.{Fault}
+use Rattle.fault.specs.Faults.{Own}
+use Rattle.literal.specs.Limits.{Looser}
+use Rattle.basis.specs.Store.{over}
+use Rattle.numbers.specs.Spell.{spelled, value}
+use Rattle.reading.specs.Reading.{Left}
+use Rattle.reading.specs.Entries.{numbersOf}
+use Rattle.reading.specs.Told.{numberOf}
+use Rattle.reading.specs.declared.Ending.the-variants.{Stop}
+use Rattle.run.specs.Run.{ranOf, literalsOf, entriesOf}
+use Rattle.run.specs.declared.Ran.{Ran}
+use Rattle.run_bytes.specs.Bytes.{bytesOf}
+use Rattle.c_run.specs.Export.{tellsOf}
+
+-- the second call's limit is nowhere stricter, and it is lent no less memory
+pub record No-stricter (limit limit′ : ℕ) (literals literals′ entries entries′ : List ℕ) : Type 0 where
+  pub limits : Looser limit limit′
+  pub more-bytes : length literals ≤ length literals′
+  pub more-entries : length entries ≤ length entries′
+
+-- ---- `run`
+-- a call: its answer, and what the memory lent for literal bytes and for entries holds then
+pub record Called : Type 0 where
+  pub answer : Ran
+  pub literals : List ℕ
+  pub entries : List ℕ
+
+-- what a call holds then that was lent two memories and has left l: the entries of l, five numbers each, and its literal bytes, each in front of the old rest
+abbrev pub holds : Left → List ℕ → List ℕ → Called
+holds l literals entries = record { answer = ranOf l; literals = literalsOf l literals; entries = entriesOf numbersOf l entries }
+
+-- of two calls
+pub record Repeats-call (first second : Called) : Type 0 where
+  -- "larger limits repeat all earlier tokens, same bytes and positions,": the first call's entries are the front of the second's memory, and its literal bytes too
+  pub no-fewer : first .answer .listed ≤ second .answer .listed
+  pub entries : take (5 * first .answer .listed) (second .entries) ≡ take (5 * first .answer .listed) (first .entries)
+  pub no-less : first .answer .used ≤ second .answer .used
+  pub literals : take (first .answer .used) (second .literals) ≡ take (first .answer .used) (first .literals)
+  -- "and an ending not caused by a limit or room recurs whole.": the same answer, and so the same entries and the same bytes
+  pub recurs : ((f : Fault) → first .answer .ending ≡ Stop f → Own f) → second .answer ≡ first .answer
+
+-- ---- `stew_run`
+-- a call: the number returned, and what the three slices hold then
+pub record C-called : Type 0 where
+  pub returned : ℕ
+  pub literals : List ℕ
+  pub entries : List ℕ
+  pub answer : List ℕ
+
+-- what a call holds then that was lent three memories and has left l: the same, with twenty bytes an entry, and seven numbers of four bytes in front of the old rest of the answer
+abbrev pub C-holds : Left → List ℕ → List ℕ → List ℕ → C-called
+C-holds l literals entries answer = record {
+  returned = numberOf (l .ending);
+  literals = literalsOf l literals;
+  entries = entriesOf bytesOf l entries;
+  answer = over (spelled 4 (tellsOf (l .ending) (length (l .listed)) (length (l .packed)))) answer;
+}
+
+-- the i-th of the numbers that stand in bytes, four little-endian bytes each
+abbrev pub numberAt : ℕ → List ℕ → ℕ
+numberAt i bytes = value (take 4 (drop (4 * i) bytes))
+
+-- how many entries were listed and how many literal bytes used, as the answer's bytes tell it
+abbrev pub listedIn : List ℕ → ℕ
+listedIn answer = numberAt 3 answer
+
+abbrev pub usedIn : List ℕ → ℕ
+usedIn answer = numberAt 4 answer
+
+-- of two calls, each with room for its answer
+pub record Repeats-C-call (first second : C-called) : Type 0 where
+  -- "larger limits repeat all earlier tokens, same bytes and positions,"
+  pub no-fewer : listedIn (first .answer) ≤ listedIn (second .answer)
+  pub entries : take (20 * listedIn (first .answer)) (second .entries) ≡ take (20 * listedIn (first .answer)) (first .entries)
+  pub no-less : usedIn (first .answer) ≤ usedIn (second .answer)
+  pub literals : take (usedIn (first .answer)) (second .literals) ≡ take (usedIn (first .answer)) (first .literals)
+  -- "and an ending not caused by a limit or room recurs whole.": where it is not 7, 9 or 10, the same number and the same answer
+  pub recurs : (first .returned ≡ 7 → ⊥) → (first .returned ≡ 9 → ⊥) → (first .returned ≡ 10 → ⊥)
+      → (second .returned ≡ first .returned) × (take 28 (second .answer) ≡ take 28 (first .answer))
