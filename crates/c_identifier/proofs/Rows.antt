@@ -6,20 +6,15 @@ use lib.ListN.{length}
 use Rattle.position.specs.Place.{given}
 use Rattle.position.specs.declared.Position.{Position}
 use Rattle.identifier.specs.Identifiers.{identifierOf}
+use Rattle.identifier.specs.Told.{told}
 use Rattle.identifier.specs.declared.Identified.{Identified}
-use Rattle.identifier.specs.declared.Identified.the-variants.{Found, Refused}
 use Rattle.c_identifier.specs.Row.{listed, rowOf}
-
-listed-long : (s : Identified) → length (listed s) ≡ 8
-unfolding listed
-listed-long (Found w) = refl
-listed-long (Refused f c) = refl
 
 module _ (t : List ℕ) (at l c : ℕ) (book : List ℕ) where
   pub row-long : length (rowOf t at l c book) ≡ 8
   unfolding rowOf
-  row-long = listed-long (identifierOf t at (given l c) book)
+  row-long = refl
 
-  pub row-is : {p : Position} {s : Identified} {r : List ℕ} → p ≡ given l c → s ≡ identifierOf t at p book → r ≡ listed s → r ≡ rowOf t at l c book
+  pub row-is : {p : Position} {s : Identified} {r : List ℕ} → p ≡ given l c → s ≡ identifierOf t at p book → r ≡ listed (told s) → r ≡ rowOf t at l c book
   unfolding rowOf
   row-is e f g = rw (g, f, e)

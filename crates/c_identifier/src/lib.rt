@@ -2,6 +2,7 @@
 ghost use mathlib.Core.Path.{_≡_};
 ghost use Prim.Native.Nat.{_≤_};
 ghost use lib.ListN.{getD};
+ghost use Rattle.identifier.specs.Told.{told};
 ghost use Rattle.numbers.specs.Answer.{returned, answered};
 ghost use Rattle.c_identifier.specs.Row.{listed, rowOf};
 use identifier::Identified;
@@ -9,7 +10,7 @@ use position::Position;
 
 // The number is small, so that a caller can cast it.
 fn row_of(scanned: Identified) -> [u64; 8]
-    ensures { λ r. ⌜ (r ≡ listed scanned) × (getD r 0 0 ≤ 255) ⌝ }
+    ensures { λ r. ⌜ (r ≡ listed (told scanned)) × (getD r 0 0 ≤ 255) ⌝ }
 {
     match scanned {
         Identified::Found(word) => {

@@ -3,7 +3,9 @@ use mathlib.Core.List.{[], _∷_}
 use mathlib.Core.Path.{_≡_, refl}
 use Rattle.coordinates.specs.declared.Placed.the-variants.{Refused}
 use Rattle.coordinates.specs.declared.Coordinate.the-variants as coordinate
-use Rattle.pack.specs.Numbers.{refusal}
+use Rattle.position.specs.Place.{none, lineNumber, columnNumber}
+use Rattle.coordinates.specs.Told.{told}
+use Rattle.pack.specs.Numbers.{packed, refusal}
 use Rattle.c_position.specs.Numbers.{placedAsNumber, coordinateAsNumber}
 
 pub record Worked : Type 0 where
@@ -12,5 +14,5 @@ pub record Worked : Type 0 where
   pub no-column : coordinateAsNumber coordinate.None ≡ 4294967296
 
 pub worked : Worked
-unfolding refusal placedAsNumber coordinateAsNumber
+unfolding none lineNumber columnNumber packed refusal told placedAsNumber coordinateAsNumber
 worked = record { no-sum = refl; a-column = refl; no-column = refl }

@@ -9,11 +9,6 @@ use Rattle.coordinates.specs.declared.Placed.the-variants.{At, Refused}
 use Rattle.coordinates.specs.declared.Coordinate.{Coordinate}
 use Rattle.coordinates.specs.declared.Coordinate.the-variants.{Some, None}
 
--- the number of the refusal, 0 for a place
-unfoldable pub placedNumber : Placed → ℕ
-placedNumber (At p) = 0
-placedNumber (Refused n) = n
-
 -- the Rust's `new`: line 0 is 3
 unfoldable pub newOf : ℕ → ℕ → Placed
 newOf l c = pick (eqb l 0) (Refused 3) (At (given l c))

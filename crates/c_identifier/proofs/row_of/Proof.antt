@@ -1,18 +1,19 @@
--- Each arm is the row of its case.
+-- Each arm is the row of what its case tells; a place that a case does not have is NONE, which is 0.
 use native.Mathlib.Omega.{arith}
 use borrow.Author.Needs.{needs}
-use Rattle.c_identifier.specs.Row.{listed}
+use Rattle.identifier.specs.Told.{told}
+use Rattle.pack.proofs.Examples.{worked}
 use Rattle.c_identifier.proofs.row_of.Statement.{statement}
 use Rattle.c_identifier.proofs.row_of.Tie as tie
 
 returns : tie.Need-returns
-unfolding listed
+unfolding told
 returns c =
     let known = c .before .before .before .before .before in
-    (rw (known .scanned .given .1, c .pack .ensures), omega arith)
+    (rw (known .scanned .given .1, c .pack .ensures, worked .no-place), omega arith)
 
 returns-2 : tie.Need-returns-2
-unfolding listed
+unfolding told
 returns-2 c =
     let call = c .before in
     let known = call .before .before .before .before in

@@ -1,12 +1,16 @@
--- Each arm is the definition at its case.
+-- Each arm is the number of its case.
+use mathlib.Core.Path.{_∙_}
 use borrow.Author.Needs.{needs}
 use Rattle.pack.specs.Numbers.{refusal}
-use Rattle.c_position.specs.Numbers.{placedAsNumber}
+use Rattle.c_position.proofs.Cases.{at-number, refused-number}
 use Rattle.c_position.proofs.placed_as_number.Statement.{statement}
 use Rattle.c_position.proofs.placed_as_number.Tie as tie
 
+returns-2 : tie.Need-returns-2
+unfolding refusal
+returns-2 c = rw (c .before .a2 .given .1) (refused-number _)
+
 pub placed-as-number-spec : {M : Type 1} → statement M
-unfolding refusal placedAsNumber
 placed-as-number-spec = tie.close
     (tie.spec
     (λ c. search needs)
@@ -14,5 +18,5 @@ placed-as-number-spec = tie.close
     (λ c. search needs)
     (λ c. search needs)
     (λ c. search needs)
-    (λ c. rw (c .before .before .a .given .1, c .pack .ensures))
-    (λ c. rw (c .before .a2 .given .1)))
+    (λ c. rw (c .before .before .a .given .1) (c .pack .ensures ∙ at-number _))
+    returns-2)
