@@ -1,3 +1,3 @@
 pub mod Cases
-pub mod Lengths
+pub mod Rows
 pub mod Examples

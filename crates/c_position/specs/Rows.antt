@@ -1,4 +1,4 @@
--- What the source says of a place, and of two, as rows of numbers, for the C names.
+-- What the source says of a place, and of two, and what it keeps of token ends, as rows of numbers, for the C names.
 use Prim.Native.Nat.{ℕ}
 use mathlib.Core.List.{List, [], _∷_}
 use Rattle.numbers.specs.Answer.{flag}
@@ -9,6 +9,9 @@ use Rattle.moves.specs.Moves.{advanceOf, rewindOf, newLineOf}
 use Rattle.sum.specs.Sum.{sumOf}
 use Rattle.span.specs.Spans.{newSpan, startOf, endOf, isNoSpan}
 use Rattle.position.specs.declared.Position.{Position}
+use Rattle.token_ends.specs.Ends.{recordTokenOf}
+use Rattle.token_ends.specs.Told.{Told, told}
+use Rattle.token_ends.specs.declared.TokenEnds.{TokenEnds}
 use Rattle.c_position.specs.Numbers.{placedAsNumber, coordinateAsNumber}
 
 -- of a line and a column: the new place; the line, the column and the two tests of the place that they are; where its moves lead
@@ -37,3 +40,15 @@ pairRow p q =
 -- the same of two lines and columns
 unfoldable pub placesRow : ℕ → ℕ → ℕ → ℕ → List ℕ
 placesRow l c m d = pairRow (given l c) (given m d)
+
+-- of what is recorded: the number; the last end, and the one before it
+abbrev pub listed : Told → List ℕ
+listed t = t .number ∷ packed (t .last) ∷ packed (t .previous) ∷ []
+
+-- two ends, each by its line and its column: the last one, and the one before it
+abbrev pub ends : ℕ → ℕ → ℕ → ℕ → TokenEnds
+ends l c m d = record { last = given l c; previous = given m d }
+
+-- of a token that ends at a line and a column, and the ends that it finds
+unfoldable pub recordRow : ℕ → ℕ → ℕ → TokenEnds → List ℕ
+recordRow token l c e = listed (told (recordTokenOf e token (given l c)))

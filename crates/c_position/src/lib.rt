@@ -1,12 +1,18 @@
-// C names of the places: they go in as a line and a column each, and what the source says of them comes out as a row.
+// C names of the places and of the token ends: places go in as a line and a column each, and what the source says of them
+// comes out as a row.
 ghost use mathlib.Core.Path.{_≡_};
-ghost use Rattle.numbers.specs.Answer.{fitted, answered};
+ghost use Prim.Native.Nat.{_≤_};
+ghost use lib.ListN.{getD};
+ghost use Rattle.token_ends.specs.Told.{told};
+ghost use Rattle.numbers.specs.Answer.{fitted, returned, answered};
 ghost use Rattle.c_position.specs.Numbers.{placedAsNumber, coordinateAsNumber};
-ghost use Rattle.c_position.specs.Rows.{placeRow, pairRow, placesRow};
+ghost use Rattle.c_position.specs.Rows.{placeRow, pairRow, placesRow, listed, ends, recordRow};
 use coordinates::Coordinate;
 use coordinates::Placed;
 use position::Position;
 use span::Span;
+use token_ends::Recorded;
+use token_ends::TokenEnds;
 
 // A place, packed, or its refusal times 2^32.
 fn placed_as_number(a: Placed) -> u64
@@ -57,6 +63,20 @@ fn pair_row(p: Position, q: Position) -> [u64; 5]
     ]
 }
 
+// The number is small, so that a caller can cast it.
+fn recorded_row(recorded: Recorded) -> [u64; 3]
+    ensures { λ r. ⌜ (r ≡ listed (told recorded)) × (getD r 0 0 ≤ 255) ⌝ }
+{
+    match recorded {
+        Recorded::Ends(ends) => {
+            return [0, pack::pack(ends.last), pack::pack(ends.previous)];
+        }
+        Recorded::Refused(number) => {
+            return [number as u64, 0, 0];
+        }
+    }
+}
+
 // The row of a place: new; line, position, is_beginning_of_line, is_none; advance, rewind, new_line.
 #[no_mangle]
 pub extern "C" fn stew_place(line: u16, column: u16, answer: &mut [u8]) -> u32
@@ -89,4 +109,33 @@ pub extern "C" fn stew_places(
     let q = Position::given(line2, column2);
     numbers::write_row(&pair_row(p, q), 8, answer);
     0
+}
+
+// The row of a token that ends at the first place, the second place being the last end, and the third the one before it:
+// number, the last end then, the one before it then.
+#[no_mangle]
+pub extern "C" fn stew_record_token(
+    token: u8,
+    line: u16,
+    column: u16,
+    line2: u16,
+    column2: u16,
+    line3: u16,
+    column3: u16,
+    answer: &mut [u8],
+) -> u32
+    ensures { λ r. ⌜ r ≡ returned (recordRow token line column (ends line2 column2 line3 column3)) (now (answer .entry)) ⌝ }
+    ensures { λ r. ⌜ now (answer .exit) ≡ answered (recordRow token line column (ends line2 column2 line3 column3)) (now (answer .entry)) ⌝ }
+{
+    if answer.len() < 24 {
+        return 9;
+    }
+    let place = Position::given(line, column);
+    let ends = TokenEnds {
+        last: Position::given(line2, column2),
+        previous: Position::given(line3, column3),
+    };
+    let row = recorded_row(token_ends::record_token(ends, token, place));
+    numbers::write_row(&row, 8, &mut *answer);
+    row[0] as u32
 }

@@ -24,6 +24,18 @@ extern "C" {
         answer_room: usize,
     ) -> u32;
 
+    fn stew_record_token(
+        token: u8,
+        line: u16,
+        column: u16,
+        last_line: u16,
+        last_column: u16,
+        previous_line: u16,
+        previous_column: u16,
+        answer: *mut u8,
+        answer_room: usize,
+    ) -> u32;
+
     fn stew_display(
         form: u8,
         line: u16,
@@ -145,6 +157,24 @@ pub fn place(at: Place, answer: &mut [u8]) -> u32 {
 pub fn places(at: Place, to: Place, answer: &mut [u8]) -> u32 {
     let (answer, room) = (answer.as_mut_ptr(), answer.len());
     unsafe { stew_places(at.0, at.1, to.0, to.1, answer, room) }
+}
+
+/// The ends that are found: the last one, and the one before it.
+pub fn record_token(token: u8, at: Place, ends: [Place; 2], answer: &mut [u8]) -> u32 {
+    let [last, previous] = ends;
+    unsafe {
+        stew_record_token(
+            token,
+            at.0,
+            at.1,
+            last.0,
+            last.1,
+            previous.0,
+            previous.1,
+            answer.as_mut_ptr(),
+            answer.len(),
+        )
+    }
 }
 
 fn display(form: u8, at: Place, to: Place, out: &mut [u8]) -> Result<u64, u64> {

@@ -7,6 +7,8 @@ pub mod c;
 #[cfg(all(rhai_source, stew_archive))]
 pub mod comment;
 #[cfg(all(rhai_source, stew_archive))]
+pub mod ends;
+#[cfg(all(rhai_source, stew_archive))]
 pub mod identifier;
 pub mod lent;
 #[cfg(all(rhai_source, stew_archive))]
@@ -40,6 +42,7 @@ pub fn compare(size: size::Size) -> report::Report {
     for subject in [
         position::run,
         token::run,
+        ends::run,
         identifier::run,
         comment::run,
         raw::run,

@@ -1,7 +1,7 @@
 -- Too short a memory is left; else the row is written to its front.
 use borrow.Author.Needs.{needs}
 use Rattle.numbers.proofs.Answers.{short-fitted, short-leaves, long-fitted}
-use Rattle.c_position.proofs.Lengths.{place-long}
+use Rattle.c_position.proofs.Rows.{place-long}
 use Rattle.c_position.proofs.stew_place.Statement.{statement}
 use Rattle.c_position.proofs.stew_place.Tie as tie
 

@@ -2,7 +2,7 @@
 use borrow.Author.Needs.{needs}
 use Rattle.numbers.proofs.Answers.{short-fitted, short-leaves, long-fitted}
 use Rattle.c_position.specs.Rows.{placesRow}
-use Rattle.c_position.proofs.Lengths.{places-long}
+use Rattle.c_position.proofs.Rows.{places-long}
 use Rattle.c_position.proofs.stew_places.Statement.{statement}
 use Rattle.c_position.proofs.stew_places.Tie as tie
 
