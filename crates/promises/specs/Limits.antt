@@ -9,7 +9,7 @@ use Rattle.chars.specs.declared.cursor.Cursor.{Cursor}
 use Rattle.literal.specs.Trace.{Trace}
 use Rattle.reading.specs.Reading.{Reading, over, reads, Left, whole}
 use Rattle.reading.specs.CutRun.{Bounds}
-use Rattle.reading.specs.Limits.{Wider, Begins, Ends-own, Caused, First-past, stopped}
+use Rattle.reading.specs.Limits.{Wider, Begins, Ends-own, Caused, refusedBy, First-past}
 use Rattle.reading.specs.declared.Ending.the-variants.{Stop}
 use Rattle.run.specs.Run.{readingOf, runOf}
 
@@ -27,6 +27,7 @@ abbrev pub ourRuns : Runs
 ourRuns script book b = runOf b script book
 
 -- ---- the words of the demand
+-- Four of them stand in crate reading. `Wider b c`: the bounds c are nowhere stricter than b. `Begins l m`: what l lists and packs, m lists and packs first. `Ends-own l`: no limit and no room causes its ending. `Caused f`: the fault is 7, 9 or 10.
 -- what the unlimited rules leave of a reading: all its tokens, their literal bytes, and how it ends
 abbrev pub unlimited : Reading → Left
 unlimited r = whole 0 r
@@ -35,9 +36,9 @@ unlimited r = whole 0 r
 abbrev pub First-that-passes : Bounds → Reading → Type 0
 First-that-passes b r = First-past b 0 0 r
 
--- what is before it, exactly: those entries and those literal bytes, ended by document 01's refusal at the place where it starts, which is 7 for the string limit, 9 for the literal room and 10 for the token room
+-- what is before it, exactly: those entries and those literal bytes; the run ends there with document 01's refusal at the place where it starts, 7 for the string limit, 9 for the literal room and 10 for the token room
 abbrev pub before : {b : Bounds} {r : Reading} → First-that-passes b r → Left
-before x = stopped (x .entries) (x .literals) (x .bound) (x .place)
+before x = record { listed = x .entries; packed = x .literals; ending = Stop (refusedBy (x .bound) (x .place)) }
 
 -- ---- the demand, of any run over what a script reads as by the unlimited rules
 pub record Limits-only-cut (r : Reading) (run : Run) : Type 0 where
