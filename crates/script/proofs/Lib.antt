@@ -5,3 +5,4 @@ pub mod Counts
 pub mod Ahead
 pub mod Skips
 pub mod Fair
+pub mod ByStep
