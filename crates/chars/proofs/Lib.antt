@@ -4,3 +4,5 @@ pub mod Stretches
 pub mod Follows
 pub mod Reaches
 pub mod Holds
+pub mod Keeps
+pub mod Small

@@ -1,3 +1,4 @@
 pub mod Begins
 pub mod Ahead
 pub mod Skips
+pub mod Small

@@ -2,3 +2,4 @@ pub mod Turns
 pub mod Limits
 pub mod Within
 pub mod Lands
+pub mod Small

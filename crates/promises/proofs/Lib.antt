@@ -8,5 +8,6 @@ pub mod Calls
 pub mod Limits
 pub mod ShuttingRuns
 pub mod RunCalls
+pub mod Numbers
 pub mod Examples
 pub mod LargeBodies

@@ -1,2 +1,3 @@
 pub mod Openings
 pub mod Leads
+pub mod Small

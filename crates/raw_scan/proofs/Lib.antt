@@ -6,3 +6,4 @@ pub mod Stands
 pub mod Readings
 pub mod Limits
 pub mod Lands
+pub mod Small

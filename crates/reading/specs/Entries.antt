@@ -1,5 +1,5 @@
 -- How entries are laid out: document 01, "Each entry is five u32: kind, line, position, offset, length".
-use Prim.Native.Nat.{ℕ}
+use Prim.Native.Nat.{ℕ, _<_}
 use mathlib.Core.List.{List, [], _∷_, _++_}
 use Rattle.position.specs.Place.{lineNumber, columnNumber}
 use Rattle.reading.specs.declared.Entry.{Entry}
@@ -12,3 +12,8 @@ numbersOf e = e .kind ∷ lineNumber (e .place) ∷ columnNumber (e .place) ∷ 
 unfoldable pub laidOut : (Entry → List ℕ) → List Entry → List ℕ
 laidOut f [] = []
 laidOut f (e ∷ es) = f e ++ laidOut f es
+
+-- each of some numbers is a u32
+abbrev pub U32s : List ℕ → Type 0
+U32s [] = Unit {0}
+U32s (n ∷ ns) = (n < 4294967296) × U32s ns

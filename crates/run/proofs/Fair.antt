@@ -19,10 +19,10 @@ use Rattle.run_door.specs.Door.{refusesOf}
 use Rattle.run.specs.Run.{readingOf}
 
 -- what is refused at the door is 1, 2 or 14
-abbrev Early : ℕ → Type 0
+abbrev pub Early : ℕ → Type 0
 Early n = (n ≤ 2) ⊎ (n ≡ 14)
 
-door-early : (t book : List ℕ) → Early (refusesOf t book)
+pub door-early : (t book : List ℕ) → Early (refusesOf t book)
 unfolding refusesOf checkOf
 door-early t book =
     pick-cases Early (ltb 16777216 (length t)) _ _ (λ y. inl (omega arith))

@@ -84,7 +84,7 @@ module _ (k level : ℕ) (e : End) (body : List ℕ) where
       by false n h = leb-false 16 level n
 
 -- behind a token a run stands at the cursor
-behind-cursor : (w : ℕ) (to : Cursor) (s : State) → behind w to s .cursor ≡ to
+pub behind-cursor : (w : ℕ) (to : Cursor) (s : State) → behind w to s .cursor ≡ to
 unfolding behind opened closed counted resumed movedTo
 behind-cursor w to s =
     pick-cases At (either (eqb w Tokens.LeftBrace) (eqb w Tokens.MapStart)) _ _ (λ y. pick-cases At (eqb (s .level) 0) _ _ (λ z. refl) (λ z. refl))

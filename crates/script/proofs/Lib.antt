@@ -5,4 +5,5 @@ pub mod Counts
 pub mod Ahead
 pub mod Skips
 pub mod Fair
+pub mod Small
 pub mod ByStep

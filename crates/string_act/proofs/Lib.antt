@@ -1,3 +1,4 @@
 pub mod Reaching
 pub mod Acts
 pub mod Lands
+pub mod Small

@@ -6,3 +6,4 @@ pub mod Bodies
 pub mod Escaping
 pub mod Doubling
 pub mod Texts
+pub mod Small
