@@ -1,4 +1,4 @@
--- Demand 3, limits only cut: "Limits only cut. A run lists exactly the tokens of the unlimited rules before the first token whose reading, finished or not, passes a limit or room where document 01 tests it; larger limits repeat all earlier tokens, same bytes and positions, and an ending not caused by a limit or room recurs whole." The statements; their proofs are in proofs/Limits.antt and proofs/ShuttingRuns.antt.
+-- Demand 3, limits only cut: "Limits only cut. A run lists exactly the tokens of the unlimited rules before the first token whose reading, finished or not, passes a limit or room where document 01 tests it; larger limits repeat all earlier tokens, same bytes and positions, and an ending not caused by a limit or room recurs whole." The statements; their proofs are in proofs/Limits.antt and proofs/ShuttingRuns.antt, and specs/RunCalls.antt carries them to the functions.
 use Prim.Native.Nat.{ℕ}
 use mathlib.Core.List.{List, [], _++_}
 use mathlib.Core.Path.{_≡_}
