@@ -28,6 +28,7 @@ use Rattle.fault.specs.declared.Fault.{Fault}
 use Rattle.fault.specs.Faults.{part, unexpectedInput, stillOpen}
 use Rattle.token.specs.Tokens as Token
 use Rattle.identifier.specs.Identifiers.{identifyOf}
+use Rattle.identifier.specs.Told.{faultOf}
 use Rattle.identifier.specs.declared.Word.{Word}
 use Rattle.identifier.specs.declared.Identified.{Identified}
 use Rattle.identifier.specs.declared.Identified.the-variants as identified
@@ -55,9 +56,9 @@ module _ {x : Identified} where
   unfolding wordOf
   a-word q = rw q
 
-  pub no-word : {f : Fault} {e : Cursor} → x ≡ identified.Refused f e → wordOf x ≡ Wrong f
-  unfolding wordOf
-  no-word q = rw q
+  pub no-word : {f : Fault} {e : Cursor} → x ≡ identified.Refused f e → {g : Fault} → g ≡ faultOf x → wordOf x ≡ Wrong g
+  unfolding wordOf faultOf
+  no-word q h = rw (h, q)
 
 -- ---- symbols
 module _ (at w : ℕ) (p : Position) {l : Longest} where

@@ -232,13 +232,11 @@ fn word(book: &[u8], text: &[u8], start: Cursor) -> Found
     ensures { λ r. ⌜ r ≡ wordOf (identifyOf (now (text .entry)) (now (book .entry)) start) ⌝ }
 {
     let identified = identifier::identify(book, text, start);
-    match identified {
-        Identified::Found(word) => {
-            let end = word.cursor;
-            Found::Part(word.kind, word.token, end)
-        }
-        Identified::Refused(fault, _) => Found::Wrong(fault),
-    }
+    let Identified::Found(word) = identified else {
+        return Found::Wrong(identified.fault());
+    };
+    let end = word.cursor;
+    Found::Part(word.kind, word.token, end)
 }
 
 // A letter or `_`. It is one test, so that `word` is called from one place and drawn in as well.

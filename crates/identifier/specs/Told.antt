@@ -2,7 +2,8 @@
 use Prim.Native.Nat.{ℕ}
 use Rattle.position.specs.Place.{none}
 use Rattle.position.specs.declared.Position.{Position}
-use Rattle.fault.specs.Faults.{part}
+use Rattle.fault.specs.Faults.{part, fault}
+use Rattle.fault.specs.declared.Fault.{Fault}
 use Rattle.fault.specs.declared.Part.{Part}
 use Rattle.chars.specs.declared.cursor.Cursor.{Cursor}
 use Rattle.identifier.specs.declared.Identified.{Identified}
@@ -21,3 +22,8 @@ pub record Told : Type 0 where
 unfoldable pub told : Identified → Told
 told (Found w) = record { number = 0; place = none; about = part 0 0; kind = w .kind; token = w .token; cursor = w .cursor }
 told (Refused f c) = record { number = f .number; place = f .place; about = f .part; kind = 0; token = 0; cursor = c }
+
+-- the fault that it tells; of a word number 0, at no place
+unfoldable pub faultOf : Identified → Fault
+faultOf (Found w) = fault 0 none
+faultOf (Refused f c) = f

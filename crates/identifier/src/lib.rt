@@ -3,10 +3,12 @@ ghost use mathlib.Core.Path.{_≡_};
 ghost use mathlib.Core.Bool.{true};
 ghost use Rattle.book.specs.Book.{good};
 ghost use Rattle.identifier.specs.Identifiers.{kindOf, listed, classOf, identifyOf};
+ghost use Rattle.identifier.specs.Told.{faultOf};
 use chars::cursor::Cursor;
 use chars::cursor::Taken;
 use fault::Fault;
 use fault::Part;
+use position::Position;
 use stretch::Stretch;
 use token::Lookup;
 
@@ -31,6 +33,22 @@ impl Word {
 pub enum Identified {
     Found(Word),
     Refused(Fault, Cursor),
+}
+
+impl Identified {
+    // The fault of a refusal; of a word number 0, at no place. It is for a `let .. else`, which cannot open the other case.
+    pub fn fault(self) -> Fault
+        ensures { λ r. ⌜ r ≡ faultOf self ⌝ }
+    {
+        match self {
+            Identified::Found(_) => Fault {
+                number: 0,
+                place: Position::NONE,
+                part: Part::NONE,
+            },
+            Identified::Refused(fault, _) => fault,
+        }
+    }
 }
 
 // The kind and the token of a text, or that it is no identifier.

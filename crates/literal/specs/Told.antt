@@ -4,7 +4,8 @@ use mathlib.Core.Bool.{Bool, false}
 use Rattle.position.specs.declared.Position.{Position}
 use Rattle.position.specs.Place.{none}
 use Rattle.fault.specs.declared.Part.{Part}
-use Rattle.fault.specs.Faults.{part}
+use Rattle.fault.specs.declared.Fault.{Fault}
+use Rattle.fault.specs.Faults.{part, fault}
 use Rattle.chars.specs.declared.cursor.Cursor.{Cursor}
 use Rattle.literal.specs.declared.Terminator.{Terminator}
 use Rattle.literal.specs.declared.Scanned.{Scanned}
@@ -50,3 +51,8 @@ told (Refused f) =
 unfoldable pub number : Scanned → ℕ
 number (Accepted e n) = 0
 number (Refused f) = f .fault .number
+
+-- the fault that it tells; of an accepted scan number 0, at no place
+unfoldable pub faultOf : Scanned → Fault
+faultOf (Accepted e n) = fault 0 none
+faultOf (Refused f) = f .fault

@@ -3,8 +3,10 @@ ghost use mathlib.Core.Bool.{false};
 ghost use mathlib.Core.Path.{_≡_};
 ghost use Prim.Native.Nat.{_+_, _≤_, _<_};
 ghost use Rattle.literal.specs.Trace.{passes};
+ghost use Rattle.literal.specs.Told.{faultOf};
 use chars::cursor::Cursor;
 use fault::Fault;
+use fault::Part;
 use position::Position;
 
 // The terminator on record, for a literal that is still open: a character, and how often it stands.
@@ -37,6 +39,22 @@ pub struct Refusal {
 pub enum Scanned {
     Accepted(End, usize),
     Refused(Refusal),
+}
+
+impl Scanned {
+    // The fault of a refusal; of an accepted scan number 0, at no place. It is for a `let .. else`, which cannot open the other case.
+    pub fn fault(self) -> Fault
+        ensures { λ r. ⌜ r ≡ faultOf self ⌝ }
+    {
+        match self {
+            Scanned::Accepted(_, _) => Fault {
+                number: 0,
+                place: Position::NONE,
+                part: Part::NONE,
+            },
+            Scanned::Refused(refusal) => refusal.fault,
+        }
+    }
 }
 
 // Whether a length in bytes passes the limit; 0 is no limit.

@@ -290,27 +290,22 @@ fn literal(
     let mut aside: [u8; 128] = [0; 128];
     let room = literals.len() - used;
     let scanned = measure(text, kind, from, limit, room, &mut aside);
-    match scanned {
-        Scanned::Refused(refusal) => {
-            let fault = refusal.fault;
-            return over(from, used, Ending::Stop(fault));
-        }
-        Scanned::Accepted(end, len) => {
-            return accepted(
-                &aside,
-                text,
-                kind,
-                from,
-                end,
-                len,
-                level,
-                limit,
-                free,
-                used,
-                literals,
-            );
-        }
-    }
+    let Scanned::Accepted(end, len) = scanned else {
+        return over(from, used, Ending::Stop(scanned.fault()));
+    };
+    accepted(
+        &aside,
+        text,
+        kind,
+        from,
+        end,
+        len,
+        level,
+        limit,
+        free,
+        used,
+        literals,
+    )
 }
 
 // A token that is a part of the script, from a cursor up to another.
