@@ -1,0 +1,4 @@
+pub mod Puts
+pub mod Wholes
+pub mod Lines
+pub mod Runs
