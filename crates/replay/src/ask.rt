@@ -2,6 +2,7 @@
 ghost use Rattle.io.specs.Counts.{Counts};
 use crate::line::Case;
 use crate::line::text;
+use crate::runs;
 use crate::show;
 use comment::Commented;
 use coordinates::Placed;
@@ -26,8 +27,10 @@ use token::Lookup;
 //     doc [///]    valid [_a1]    white 9
 //     book <0000>    reserved <0000>, [a]    unchecked <0000>, [a]    find <0000>, <0000>, [a]    the house book first
 //     write room 9 [a"#]                                   the raw writer
+//     run limit 3 literals 9 numbers 25 [a], <0000>        a script and its book; room for literal bytes, and for the entries' numbers
+//     listing [a]    last [a]                              a script's listing, `|` for a line feed; its last line, and how many it has
 //
-// Each is known by its first four bytes, `stri` to `writ`.
+// Each is known by its first four bytes, `stri` to `last`.
 const STRING: usize = 0x7374_7269;
 
 const RAW: usize = 0x7261_7720;
@@ -79,6 +82,12 @@ const UNCHECKED: usize = 0x756e_6368;
 const FIND: usize = 0x6669_6e64;
 
 const WRITE: usize = 0x7772_6974;
+
+const RUN: usize = 0x7275_6e20;
+
+const LISTING: usize = 0x6c69_7374;
+
+const LAST: usize = 0x6c61_7374;
 
 // How much room a case gives.
 fn given(kind: usize, case: Case) -> usize {
@@ -237,6 +246,15 @@ fn of_book<'a>(kind: usize, first: &'a [u8], before: &'a [u8], last: &[u8]) {
     }
 }
 
+// What is asked of a script, which for a run a book follows.
+fn of_script(kind: usize, case: Case, before: &[u8], last: &[u8]) {
+    match kind {
+        RUN => runs::run(case, before, last),
+        LISTING => runs::listing(last),
+        _ => runs::last(last),
+    }
+}
+
 // The answer to what is asked.
 pub fn answer(kind: usize, case: Case, texts: &[u8], out: &mut [u8]) {
     let before = text(case, texts, 1);
@@ -253,6 +271,7 @@ pub fn answer(kind: usize, case: Case, texts: &[u8], out: &mut [u8]) {
             case,
         ),
         COMMENT | IDENTIFIER | LOOKUP | SYMBOL | DOC | VALID => of_text(kind, case, before, last),
+        RUN | LISTING | LAST => of_script(kind, case, before, last),
         _ => of_book(kind, text(case, texts, 2), before, last),
     }
 }

@@ -6,6 +6,7 @@ use line::Case;
 
 mod ask;
 mod line;
+mod runs;
 mod show;
 
 // Writes what stands behind a line.

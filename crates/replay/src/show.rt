@@ -9,7 +9,7 @@ use position::Position;
 use token::Lookup;
 
 // The words of the answers, in 13 bytes each. The kinds of identifier::Word are the numbers of their words.
-const WORDS: [u8; 273] = *b"\
+const WORDS: [u8; 338] = *b"\
     unknown      \
     name         \
     keyword      \
@@ -31,6 +31,11 @@ const WORDS: [u8; 273] = *b"\
     part         \
     first        \
     interpolated \
+    end          \
+    stop         \
+    literals     \
+    kept         \
+    lines        \
     ";
 
 pub const UNKNOWN: u8 = 0;
@@ -61,11 +66,21 @@ const REFUSED: u8 = 16;
 
 const AT: u8 = 17;
 
-const PART: u8 = 18;
+pub const PART: u8 = 18;
 
 const FIRST: u8 = 19;
 
 const INTERPOLATED: u8 = 20;
+
+pub const END: u8 = 21;
+
+pub const STOP: u8 = 22;
+
+pub const LITERALS: u8 = 23;
+
+pub const KEPT: u8 = 24;
+
+pub const LINES: u8 = 25;
 
 // Bytes as they are.
 pub fn text(bytes: &[u8]) {
@@ -83,7 +98,7 @@ pub fn word(n: u8) {
     byte(b' ');
     let words = WORDS;
     let mut at = 13 * n as usize;
-    while at < 273 {
+    while at < 338 {
         let b = words[at];
         if b == b' ' {
             return;

@@ -15,6 +15,7 @@ use Rattle.basis.proofs.Stores.{sets-cons, sets-front}
 use Rattle.position.specs.Place.{start, lineNumber, columnNumber}
 use Rattle.fault.specs.Faults.{fault}
 use Rattle.run_door.specs.Door.{refusesOf}
+use Rattle.run_door.proofs.Doors.{too-long}
 use Rattle.reading.specs.Reading.{Left, ended}
 use Rattle.reading.specs.CutRun.{Bounds, cutRun}
 use Rattle.reading.specs.Entries.{numbersOf, laidOut}
@@ -134,6 +135,12 @@ module _ (b : Bounds) (t book : List ℕ) where
   pub run-refused : (refusesOf t book ≡ 0 → ⊥) → runOf b t book ≡ ended (Stop (fault (refusesOf t book) start))
   unfolding runOf readingOf cutRun
   run-refused n = rw (ne-eqb (refusesOf t book) 0 n)
+
+  -- a script that is too long is 2 at START, whatever it holds: D76 (2) of docs/DECISIONS.md, whose script no program of the gate can hold
+  pub too-long-run : 16777216 < length t → runOf b t book ≡ ended (Stop (fault 2 start))
+  too-long-run h =
+      let two = too-long t book h in
+      rw two at (run-refused (λ z. let no : 2 ≡ 0 = sym two ∙ z in omega (arith, no)))
 
   -- what is refused at the door lists nothing, and leaves the memory as it was
   module _ (no : refusesOf t book ≡ 0 → ⊥) where

@@ -150,10 +150,11 @@ mod case {
 mod ask {
     use crate::case::Case;
     use oracle::identifier::{parse_identifier_token, Word};
-    use oracle::{comment, position, raw, string, token, words};
+    use oracle::{comment, position, raw, script, string, token, words};
     use oracle::{Accepted, LexError, Place, Refused};
 
-    /// `None` where the Rust is not asked or has no answer: it panics, or the case is about what we add.
+    /// `None` where the Rust is not asked or has no answer: it panics, or the case is about what we add. The runs are ours to
+    /// give, and are held to the oracle's.
     pub fn answer(case: &Case) -> Option<String> {
         let token = case.number(0) as u32;
         let truth = |b: bool| Some(b.to_string());
@@ -185,8 +186,49 @@ mod ask {
             "doc" => truth(comment::is_doc_comment(case.text(0)?)),
             "valid" => truth(words::is_valid_identifier(case.text(0)?)),
             "white" => truth(char::from_u32(token)?.is_whitespace()),
+            "run" => Some(run(case)),
+            "listing" => Some(lines(&script::listing(&case.texts[0]))),
+            "last" => {
+                let listing = script::listing(&case.texts[0]);
+                let last = listing.lines().last()?;
+                Some(format!("lines {} {}|", listing.lines().count(), last))
+            }
             _ => None,
         }
+    }
+
+    /// A run is document 01's, over the Rust's own scanners.
+    fn run(case: &Case) -> String {
+        let bounds = script::Bounds {
+            limit: case.number(0),
+            literals: case.number(1),
+            entries: case.number(2) / 5,
+        };
+        let left = script::Script::read(&case.texts[0], &case.texts[1]).cut(bounds);
+        let mut shown = String::new();
+        for entry in &left.entries {
+            let (line, column) = entry.place;
+            let (offset, length) = (entry.part.offset, entry.part.length);
+            let kind = entry.kind as u32;
+            shown += &format!("{} {} {} {} {}, ", kind, line, column, offset, length);
+        }
+        let at = place(left.ending.place);
+        shown += &match left.ending.number {
+            0 => format!("end {}", at),
+            number => {
+                let part = left.ending.part;
+                format!(
+                    "stop {} {} part {} {}",
+                    number, at, part.offset, part.length
+                )
+            }
+        };
+        format!("{} literals {} kept true", shown, hex(&left.literals))
+    }
+
+    /// A text with `|` for each line feed.
+    fn lines(text: &str) -> String {
+        text.replace('\n', "|")
     }
 
     fn literal(case: &Case) -> Option<String> {
@@ -203,9 +245,16 @@ mod ask {
         })
     }
 
+    /// Bytes in hex, `-` for none.
+    fn hex(bytes: &[u8]) -> String {
+        if bytes.is_empty() {
+            return "-".into();
+        }
+        bytes.iter().map(|b| format!("{:02x}", b)).collect()
+    }
+
     fn accepted(read: &Accepted) -> String {
-        let body: String = read.body.bytes().map(|b| format!("{:02x}", b)).collect();
-        let body = if body.is_empty() { "-" } else { &body };
+        let body = hex(read.body.as_bytes());
         let ends = ends(read.offset, read.position);
         let interpolated = if read.interpolated {
             " interpolated"
