@@ -2,7 +2,7 @@
 use Prim.Native.Nat.{ℕ, _+_, _≤_, _<_}
 use native.Mathlib.Omega.{arith}
 use mathlib.Core.List.{List}
-use mathlib.Core.Path.{_≡_, refl, sym, ap, _∙_}
+use mathlib.Core.Path.{_≡_, refl, ap, _∙_}
 use Rattle.position.specs.declared.Position.{Position}
 use Rattle.position.specs.Place.{advanced}
 use lib.ListN.{length}
@@ -10,9 +10,8 @@ use Rattle.utf8.specs.Table.{lookAt}
 use Rattle.utf8.proofs.Laws.{at-width}
 use Rattle.utf8.specs.declared.Look.{Look}
 use Rattle.utf8.specs.declared.Look.the-variants as look
-use Rattle.chars.specs.Cursors.{cursor, takenOn, behind, peekAfterOf, getNextOf, eatNextOf}
+use Rattle.chars.specs.Cursors.{cursor, takenOn, getNextOf, eatNextOf}
 use Rattle.chars.specs.declared.cursor.Cursor.{Cursor}
-use Rattle.chars.specs.declared.cursor.Taken.{Taken}
 use Rattle.chars.specs.declared.cursor.Taken.the-variants as taken
 
 -- from the look to the answer
@@ -26,10 +25,6 @@ module _ (t : List ℕ) (s : Cursor) where
     unfolding eatNextOf
     ate = rw e
 
-    pub peeked : peekAfterOf t s ≡ lookAt t (s .at + w)
-    unfolding peekAfterOf
-    peeked = rw e
-
   module _ (e : lookAt t (s .at) ≡ look.End) where
     pub got-none : getNextOf t s ≡ taken.End
     unfolding getNextOf
@@ -38,10 +33,6 @@ module _ (t : List ℕ) (s : Cursor) where
     pub ate-none : eatNextOf t s ≡ taken.End
     unfolding eatNextOf
     ate-none = rw e
-
-    pub peeked-none : peekAfterOf t s ≡ look.End
-    unfolding peekAfterOf
-    peeked-none = rw e
 
 char-is : {c d : ℕ} {s r : Cursor} → taken.Char d r ≡ taken.Char c s → d ≡ c
 char-is e = cc

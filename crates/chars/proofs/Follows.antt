@@ -1,8 +1,8 @@
 -- What stands next, as a look says it and as a rule asks it. Assumes nothing.
 use Prim.Native.Nat.{ℕ}
 use mathlib.Core.Bool.{true, false}
-use mathlib.Core.List.{List, [], _∷_}
-use mathlib.Core.Path.{_≡_, refl}
+use mathlib.Core.List.{List}
+use mathlib.Core.Path.{_≡_}
 use borrow.Author.Tests.{eq-eqb, ne-eqb}
 use Rattle.utf8.specs.Table.{charsAt, lookAt}
 use Rattle.utf8.specs.declared.Look.the-variants.{Char, End}

@@ -1,16 +1,15 @@
 -- What holds of a scan's end and of every turn that is over, and of a turn where it holds behind it, holds of the scan. Assumes nothing.
 use Prim.Native.Nat.{ℕ, zero, suc, _+_, _≤_, _<_}
 use native.Mathlib.Omega.{arith}
-use native.Mathlib.Nat.{add-zero, add-assoc}
 use mathlib.Core.List.{List, _∷_}
-use mathlib.Core.Path.{_≡_, refl, sym}
+use mathlib.Core.Path.{_≡_, refl}
 use lib.ListN.{length}
 use Rattle.utf8.specs.Table.{ch, charsAt, lookAt}
 use Rattle.utf8.specs.declared.Look.{Look}
 use Rattle.utf8.specs.declared.Look.the-variants.{Char, End}
 use Rattle.utf8.proofs.Laws.{at-width, chars-char, chars-end}
 use Rattle.chars.specs.Scan.{Turn, go, stop, Rule, runAt, widths}
-use Rattle.chars.proofs.Scans.{widths-char, move-on, move-over, at-end, many-on, is-over}
+use Rattle.chars.proofs.Scans.{move-on, move-over, at-end, many-on, is-over}
 
 -- some characters from an offset within the text end within it
 pub widths-within : (t : List ℕ) (k at : ℕ) → at ≤ length t → at + widths k (charsAt t at) ≤ length t

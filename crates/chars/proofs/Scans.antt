@@ -2,13 +2,13 @@
 -- Assumes nothing.
 use Prim.Native.Nat.{ℕ, zero, suc, _+_}
 use native.Mathlib.Nat.{add-zero, add-assoc}
-use mathlib.Core.List.{List, [], _∷_}
+use mathlib.Core.List.{List, _∷_}
 use mathlib.Core.Path.{_≡_, refl, ap, sym, _∙_}
-use Rattle.utf8.specs.Table.{Ch, ch, charsAt, lookAt}
+use Rattle.utf8.specs.Table.{ch, charsAt, lookAt}
 use Rattle.utf8.specs.declared.Look.{Look}
 use Rattle.utf8.specs.declared.Look.the-variants.{Char, End}
 use Rattle.utf8.proofs.Laws.{chars-char, chars-end}
-use Rattle.chars.specs.Scan.{Turn, go, stop, Rule, run, runAt, widths, onTurn, Move, on, over, moveIn, moveAt}
+use Rattle.chars.specs.Scan.{Turn, go, stop, Rule, run, runAt, widths, onTurn, Move, on, over, moveAt}
 
 -- the bytes of one more character
 pub widths-char : (t : List ℕ) (at k : ℕ) {c w : ℕ} → lookAt t at ≡ Char c w → widths (suc k) (charsAt t at) ≡ w + widths k (charsAt t (at + w))

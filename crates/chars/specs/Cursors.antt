@@ -1,4 +1,4 @@
--- The cursor, which stands in for the Rust's InputStream: `get_next`, `eat_next_and_advance`, and the character after the next one.
+-- The cursor, which stands in for the Rust's InputStream: `get_next` and `eat_next_and_advance`. Who looks ahead takes from a copy.
 use Prim.Native.Nat.{ℕ, _+_}
 use mathlib.Core.List.{List}
 use Rattle.position.specs.declared.Position.{Position}
@@ -18,15 +18,6 @@ cursor n p = record { at = n; place = p }
 abbrev pub takenOn : ℕ → Position → Look → Taken
 takenOn at p (look.Char c w) = taken.Char c (cursor (at + w) p)
 takenOn at p look.End = taken.End
-
--- the character behind the one found at an offset
-abbrev pub behind : List ℕ → ℕ → Look → Look
-behind t at (look.Char c w) = lookAt t (at + w)
-behind t at look.End = look.End
-
--- the character after the next one
-unfoldable pub peekAfterOf : List ℕ → Cursor → Look
-peekAfterOf t c = behind t (c .at) (lookAt t (c .at))
 
 -- the next character taken, the place as it was
 unfoldable pub getNextOf : List ℕ → Cursor → Taken

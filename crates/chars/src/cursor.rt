@@ -1,7 +1,7 @@
 // The cursor: an offset and a place by value, over a text that is lent at each call. Whoever looks
 // ahead takes from a copy, so there is nothing to unget. The next character is `utf8::look_at` at its offset.
 ghost use mathlib.Core.Path.{_≡_};
-ghost use Rattle.chars.specs.Cursors.{peekAfterOf, getNextOf, eatNextOf};
+ghost use Rattle.chars.specs.Cursors.{getNextOf, eatNextOf};
 use position::Position;
 use utf8::Look;
 
@@ -17,17 +17,6 @@ pub enum Taken {
 }
 
 impl Cursor {
-    // The character after the next one, not taken.
-    pub fn peek_after(self, text: &[u8]) -> Look
-        ensures { λ r. ⌜ r ≡ peekAfterOf (now (text .entry)) self ⌝ }
-    {
-        let at = self.at;
-        let Look::Char(_, w) = utf8::look_at(text, at) else {
-            return Look::End;
-        };
-        utf8::look_at(text, at + w)
-    }
-
     // Takes the next character. The place stays.
     pub fn get_next(self, text: &[u8]) -> Taken
         ensures { λ r. ⌜ r ≡ getNextOf (now (text .entry)) self ⌝ }

@@ -4,9 +4,7 @@ use native.Mathlib.Omega.{arith}
 use mathlib.Core.List.{List}
 use mathlib.Core.Path.{_≡_, refl, ap, sym, _∙_}
 use lib.ListN.{length, getD}
-use borrow.Author.Needs.{needs}
 use Rattle.utf8.specs.Table.{lookAt}
-use Rattle.utf8.specs.declared.Look.the-variants.{End}
 use Rattle.utf8.proofs.Laws.{at-width}
 use Rattle.chars.specs.Stretch.{Stretch, none, more, Next, High}
 use Rattle.chars.proofs.Stretches.{stretch-low}

@@ -3,12 +3,10 @@ use Prim.Native.Nat.{ℕ, _+_, _-_, _≤_, _<_}
 use native.Mathlib.Omega.{arith}
 use mathlib.Core.List.{List}
 use mathlib.Core.Path.{_≡_, refl, sym, _∙_}
-use lib.ListN.{length, getD}
+use lib.ListN.{length}
 use borrow.Author.Needs.{needs}
-use Rattle.utf8.specs.Table.{lookAt}
-use Rattle.utf8.specs.declared.Look.the-variants.{Char}
 use Rattle.utf8.proofs.Bits.{look-ascii}
-use Rattle.chars.specs.Stretch.{Stretch, none, High, Other}
+use Rattle.chars.specs.Stretch.{Stretch, High, Other}
 use Rattle.chars.proofs.Stretches.{stretch-low, one-more, no-more, then-more, high-other}
 use Rattle.chars.proofs.passing.pass.Statement.{statement}
 use Rattle.chars.proofs.passing.pass.Tie as tie

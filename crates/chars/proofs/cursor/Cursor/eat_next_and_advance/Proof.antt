@@ -1,5 +1,5 @@
 -- What `get_next` takes at the place one column on.
-use mathlib.Core.Path.{_≡_, _∙_}
+use mathlib.Core.Path.{_∙_}
 use borrow.Author.Needs.{needs}
 use Rattle.chars.proofs.Cursors.{ate-got}
 use Rattle.chars.proofs.cursor.Cursor.eat_next_and_advance.Statement.{statement}
