@@ -1,5 +1,4 @@
 -- Worked examples of the numbers and of the rows, under one theorem. Assumes nothing.
-use mathlib.Core.List.{[], _∷_}
 use mathlib.Core.Path.{_≡_, refl}
 use Rattle.coordinates.specs.declared.Placed.the-variants.{Refused}
 use Rattle.coordinates.specs.declared.Coordinate.the-variants as coordinate

@@ -1,5 +1,5 @@
 -- The ASCII classes: document 01, "ASCII letters, digits, `_`", and the Rust's functions of these names.
-use Prim.Native.Nat.{ℕ, _+_, _-_}
+use Prim.Native.Nat.{ℕ, _-_}
 use Prim.Native.Char.{code}
 use mathlib.Core.Bool.{Bool}
 use lib.Dec.{eqb}

@@ -19,7 +19,6 @@ use Rattle.chars.specs.Cursors.{cursor, eatNextOf}
 use Rattle.chars.specs.Scan.{follows, widths, runAt, Move, on, over}
 use Rattle.chars.specs.Stretch.{Stretch, Other}
 use Rattle.chars.specs.declared.cursor.Cursor.{Cursor}
-use Rattle.chars.specs.declared.cursor.Taken.{Taken}
 use Rattle.chars.specs.declared.cursor.Taken.the-variants as taken
 use Rattle.chars.proofs.Cursors.{Took, ate-took, ate-ended}
 use Rattle.chars.proofs.Follows.{followed, other-follows, nothing-follows}

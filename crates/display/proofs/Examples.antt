@@ -1,7 +1,7 @@
 -- Worked examples of the words. Assumes nothing.
 use mathlib.Core.Path.{_≡_, refl}
 use Rattle.basis.specs.Words.{word}
-use Rattle.position.specs.Place.{place, none, start, given, lineNumber, columnNumber, isNone, beginsLine}
+use Rattle.position.specs.Place.{none, start, given, lineNumber, columnNumber, isNone, beginsLine}
 use Rattle.coordinates.specs.Coordinates.{numbered, lineOf}
 use Rattle.span.specs.Spans.{newSpan, noSpan, startOf, endOf}
 use Rattle.display.specs.Decimal.{digit, digits, decimal}

@@ -2,7 +2,7 @@
 use Prim.Native.Nat.{ℕ, _+_, _≤_, _<_}
 use native.Mathlib.Omega.{arith}
 use mathlib.Core.List.{List}
-use mathlib.Core.Path.{_≡_, refl, sym, _∙_}
+use mathlib.Core.Path.{_≡_, refl}
 use lib.ListN.{length}
 use Rattle.utf8.specs.Table.{lookAt}
 use Rattle.utf8.specs.declared.Look.{Look}
@@ -11,10 +11,9 @@ use Rattle.utf8.proofs.Laws.{at-width}
 use Rattle.chars.specs.Cursors.{cursor}
 use Rattle.chars.specs.declared.cursor.Cursor.{Cursor}
 use Rattle.fault.specs.Faults.{Own}
-use Rattle.stretch.specs.Stretch.{endOf}
 use Rattle.stretch.specs.declared.Stretch.the-variants as Stretch
 use Rattle.stretch.proofs.Ends.{end-reached}
-use Rattle.identifier.specs.Identifiers.{answered, spanned, begun, identifyOf, classOf, between}
+use Rattle.identifier.specs.Identifiers.{answered, spanned, begun, identifyOf}
 use Rattle.identifier.specs.declared.Word.{Word}
 use Rattle.identifier.specs.declared.Class.{Class}
 use Rattle.identifier.specs.declared.Class.the-variants.{Is, Malformed}

@@ -10,17 +10,16 @@
 -- | `_1`, `__`, `éa`                 | 8, with the whole text         |
 -- | nothing                          | 3                              |
 use Prim.Native.Nat.{ℕ, _+_, _-_}
-use mathlib.Core.Bool.{Bool, true, false}
-use mathlib.Core.List.{List, [], _∷_}
+use mathlib.Core.List.{List}
 use lib.Dec.{eqb, leb}
 use lib.ListN.{length, getD, take, drop}
 use Rattle.basis.specs.Pick.{pick, either, isnt}
-use Rattle.position.specs.Place.{onLine, advanced}
+use Rattle.position.specs.Place.{onLine}
 use Rattle.position.specs.declared.Position.{Position}
 use Rattle.utf8.specs.Table.{lookAt}
 use Rattle.utf8.specs.declared.Look.{Look}
 use Rattle.utf8.specs.declared.Look.the-variants as look
-use Rattle.classes.specs.Class.{isIdFirstAlphabetic, isIdContinue}
+use Rattle.classes.specs.Class.{isIdFirstAlphabetic}
 use Rattle.chars.specs.Cursors.{cursor}
 use Rattle.door.specs.Door.{doorOf}
 use Rattle.chars.specs.declared.cursor.Cursor.{Cursor}

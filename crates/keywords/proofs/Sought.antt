@@ -7,7 +7,7 @@ use mathlib.Core.Logic.{⊎-elim}
 use mathlib.Core.List.{List, [], _∷_}
 use lib.Dec.{T, eqb, ltb, leb, eqb→eq, eqb·zero-suc, ltb→lt, leb→le}
 use lib.ListN.{length, getD}
-use borrow.Author.Tests.{eq-eqb, ne-eqb, eqb-true}
+use borrow.Author.Tests.{eq-eqb, ne-eqb}
 use Rattle.basis.specs.Pick.{pick, both, either, isnt}
 use Rattle.basis.specs.Words.{word}
 use Rattle.basis.proofs.Bounds.{split}

@@ -1,13 +1,12 @@
 -- A text put together piece by piece. Assumes nothing.
 use Prim.Native.Nat.{ℕ, _+_, _-_, _≤_, _<_}
 use native.Mathlib.Omega.{arith}
-use mathlib.Core.List.{List, [], _∷_, _++_, append-assoc}
+use mathlib.Core.List.{List, [], _∷_, _++_}
 use mathlib.Core.Path.{_≡_, refl, sym, ap, _∙_}
 use mathlib.Core.Logic.{⊎-elim}
-use lib.ListN.{length, take, drop, length-append, length-take, length-drop, take-append-drop}
-use lib.Seq.{sets}
+use lib.ListN.{length, take, drop, length-take, length-drop, take-append-drop}
 use borrow.Rule.Slice.PartMut.{putMid}
-use Rattle.basis.specs.Store.{stored, after, over}
+use Rattle.basis.specs.Store.{stored, after}
 use Rattle.basis.proofs.Bounds.{split}
 use Rattle.basis.proofs.Stores.{part-sets, sets-front, stored-whole, after-whole, stored-none, after-none}
 use Rattle.lent.specs.Written.{writtenOf, leftOf}

@@ -7,21 +7,7 @@ ghost use lib.ListN.{length, drop};
 ghost use Rattle.display.specs.Decimal.{decimal};
 ghost use Rattle.display.specs.Forms.{debugOf};
 ghost use Rattle.listed.specs.Texts.{text, put, puts};
-ghost use Rattle.listed.specs.Listing.{
-  hexDigit,
-  hexByte,
-  hexOf,
-  kindOf,
-  lineOf,
-  placeOf,
-  partOf,
-  bytesOf,
-  entryOf,
-  entriesLines,
-  endingOf,
-  runLines,
-  listingOf,
-};
+ghost use Rattle.listed.specs.Listing.{hexDigit, hexByte, hexOf, kindOf, lineOf, partOf, bytesOf, entryOf, entriesLines, endingOf, runLines, listingOf};
 use display::Shown;
 use lent::Written;
 use position::Position;

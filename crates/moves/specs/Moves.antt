@@ -1,5 +1,4 @@
 -- Moves with document 01's refusals: "Moving a place on line 0, or rewinding at column 0, is 3; the Rust panics".
-use Prim.Native.Nat.{ℕ}
 use lib.Dec.{eqb}
 use Rattle.basis.specs.Pick.{pick}
 use Rattle.position.specs.Place.{onLine, columnNumber, advanced, lined, rewound}

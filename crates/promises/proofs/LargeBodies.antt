@@ -1,11 +1,11 @@
 -- What the raw writer makes of bodies of millions of bytes. Assumes nothing.
-use Prim.Native.Nat.{ℕ, zero, suc, _+_, _*_, _≤_, _<_, max}
+use Prim.Native.Nat.{ℕ, zero, suc, _+_, _*_, _<_}
 use native.Mathlib.Omega.{arith}
 use mathlib.Core.Bool.{true}
-use mathlib.Core.List.{List, [], _∷_, _++_}
+use mathlib.Core.List.{List, _∷_, _++_}
 use mathlib.Core.Path.{_≡_, refl, ap, subst, _∙_}
 use lib.ListN.{length, replicate, length-append, length-replicate}
-use borrow.Author.Tests.{lt-ltb, le-ltb, le-leb}
+use borrow.Author.Tests.{lt-ltb, le-ltb}
 use Rattle.utf8.specs.Table.{well}
 use Rattle.utf8.specs.Encode.{encode, encodeAll, allScalar, isScalar}
 use Rattle.utf8.proofs.Unicode.{scalars-well}

@@ -1,11 +1,11 @@
 -- Where a raw literal ends. Assumes nothing.
-use Prim.Native.Nat.{ℕ, zero, suc, _+_, _≤_, _<_}
+use Prim.Native.Nat.{ℕ, zero, suc, _+_, _≤_}
 use native.Mathlib.Omega.{arith}
 use mathlib.Core.List.{List, _∷_}
-use mathlib.Core.Path.{_≡_, refl, ap, _∙_}
+use mathlib.Core.Path.{_≡_, refl, ap}
 use lib.Dec.{eqb, ltb}
 use lib.ListN.{length, length-append, length-replicate}
-use Rattle.basis.specs.Pick.{pick, both}
+use Rattle.basis.specs.Pick.{both}
 use Rattle.basis.proofs.Cases.{pick-cases}
 use Rattle.position.specs.declared.Position.{Position}
 use Rattle.position.specs.Place.{none}
@@ -17,7 +17,7 @@ use Rattle.utf8.proofs.Laws.{at-width}
 use Rattle.chars.specs.Scan.{Turn, go, stop}
 use Rattle.chars.specs.declared.cursor.Cursor.{Cursor}
 use Rattle.chars.proofs.Holds.{scan-holds}
-use Rattle.chars.proofs.Reaches.{Reached, reached-low, reached-high}
+use Rattle.chars.proofs.Reaches.{reached-low, reached-high}
 use Rattle.literal.specs.Trace.{Trace, Yield, bytes, final}
 use Rattle.literal.proofs.Lands.{Lands-from, size, earlier, lands-behind}
 use Rattle.raw_open.specs.Opening.{hash, quote, openedOf}

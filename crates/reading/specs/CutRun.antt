@@ -1,6 +1,6 @@
 -- What a string limit, a literal room and a token room leave of a script's reading: document 01, "9 goes before 12 and 13, these before 10; 10 only for a token read without fault".
-use Prim.Native.Nat.{ℕ, suc, _+_, _-_}
-use mathlib.Core.List.{List, []}
+use Prim.Native.Nat.{ℕ, _+_, _-_}
+use mathlib.Core.List.{[]}
 use lib.Dec.{ltb}
 use Rattle.basis.specs.Pick.{pick}
 use Rattle.position.specs.declared.Position.{Position}
@@ -11,7 +11,6 @@ use Rattle.literal.specs.declared.Scanned.{Scanned}
 use Rattle.literal.specs.declared.Scanned.the-variants.{Accepted, Refused}
 use Rattle.literal.specs.Trace.{Trace, bytes}
 use Rattle.literal.specs.Cut.{cut}
-use Rattle.reading.specs.declared.Entry.{Entry}
 use Rattle.reading.specs.Reading.{Reading, over, halts, spoils, lists, reads, entry, Left, ended, more}
 use Rattle.reading.specs.declared.Ending.the-variants.{End, Stop}
 

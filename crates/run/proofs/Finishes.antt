@@ -1,15 +1,14 @@
 -- What a run will have left, said at each turn: the memory so far, with what is left of the script put behind it. For any way to lay an entry out. Assumes nothing.
 use Prim.Native.Nat.{ℕ, suc, _+_, _≤_, _<_}
 use native.Mathlib.Omega.{arith}
-use native.Mathlib.Nat.{zero-add, add-zero, add-assoc}
+use native.Mathlib.Nat.{add-zero, add-assoc}
 use mathlib.Core.Bool.{false}
-use mathlib.Core.List.{List, [], _∷_, _++_}
-use mathlib.Core.Path.{_≡_, refl, sym, ap, subst, _∙_}
+use mathlib.Core.List.{List}
+use mathlib.Core.Path.{_≡_, sym, ap, subst, _∙_}
 use lib.Dec.{ltb}
 use lib.ListN.{length, length-append}
 use lib.Seq.{sets, length-sets}
-use Rattle.basis.specs.Store.{over}
-use Rattle.basis.proofs.Stores.{sets-append, sets-front}
+use Rattle.basis.proofs.Stores.{sets-append}
 use Rattle.reading.specs.Reading.{Left, ended, more}
 use Rattle.reading.specs.CutRun.{Bounds, cutRun}
 use Rattle.reading.specs.Entries.{laidOut}

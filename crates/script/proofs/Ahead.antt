@@ -3,7 +3,7 @@ use Prim.Native.Nat.{ℕ, _+_, _-_, _*_, _≤_, _<_}
 use native.Mathlib.Omega.{arith}
 use mathlib.Core.Bool.{Bool, true, false}
 use mathlib.Core.List.{List}
-use mathlib.Core.Path.{_≡_, refl, sym, ap, _∙_}
+use mathlib.Core.Path.{_≡_, refl}
 use lib.Dec.{eqb, leb}
 use lib.ListN.{length}
 use borrow.Author.Tests.{eqb-true, leb-false}
@@ -15,9 +15,7 @@ use Rattle.chars.specs.declared.cursor.Cursor.{Cursor}
 use Rattle.literal.specs.declared.End.{End}
 use Rattle.literal.specs.Trace.{Trace, bytes, final, Outcome, good, bad}
 use Rattle.literal.proofs.Lands.{Lands, Lands-from}
-use Rattle.raw_scan.specs.Raw.{readOf, asSource}
 use Rattle.raw_scan.proofs.Lands.{raw-lands}
-use Rattle.string_reading.specs.Scans.{readingOf}
 use Rattle.string_reading.proofs.Lands.{string-lands}
 use Rattle.find.specs.Find as Find
 use Rattle.find.specs.Find.{findOf}

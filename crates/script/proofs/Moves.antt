@@ -3,11 +3,11 @@ use Prim.Native.Nat.{ℕ, zero, suc, _+_, _-_, _≤_, _<_}
 use native.Mathlib.Omega.{arith}
 use mathlib.Core.Bool.{Bool, true, false}
 use mathlib.Core.List.{List, [], _∷_}
-use mathlib.Core.Path.{_≡_, refl, sym, ap, _∙_}
+use mathlib.Core.Path.{_≡_}
 use lib.Dec.{eqb, leb}
 use lib.ListN.{getD, set}
 use borrow.Author.Tests.{eq-eqb, ne-eqb, le-leb, lt-leb}
-use Rattle.basis.specs.Pick.{pick, either}
+use Rattle.basis.specs.Pick.{either}
 use Rattle.basis.proofs.Cases.{pick-cases}
 use Rattle.chars.specs.declared.cursor.Cursor.{Cursor}
 use Rattle.token.specs.Tokens as Tokens

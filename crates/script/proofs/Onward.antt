@@ -2,13 +2,13 @@
 use Prim.Native.Nat.{ℕ, zero, suc, _+_, _-_, _≤_, _<_}
 use native.Mathlib.Omega.{arith}
 use mathlib.Core.List.{List, [], _∷_}
-use mathlib.Core.Path.{_≡_, refl, sym, ap, _∙_}
-use lib.ListN.{length, getD, drop, length-drop}
+use mathlib.Core.Path.{_≡_, refl, ap, _∙_}
+use lib.ListN.{length, drop, length-drop}
 use lib.Seq.{drop-cons, drop-drop}
 use Rattle.reading.specs.Reading.{Reading}
 use Rattle.script.specs.declared.State.{State}
-use Rattle.script.specs.Steps.{Step, on, over, Note, noted, stepOf}
-use Rattle.script.specs.Script.{onStep, readingFrom, scriptFrom}
+use Rattle.script.specs.Steps.{on, over, Note, noted, stepOf}
+use Rattle.script.specs.Script.{readingFrom, scriptFrom}
 
 module _ (t book : List ℕ) where
   -- to pass k bytes is to start again behind them

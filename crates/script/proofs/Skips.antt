@@ -1,10 +1,10 @@
 -- A stretch of white space is that many steps that note nothing: the reading of a script from behind it is the reading from before it. Assumes nothing.
-use Prim.Native.Nat.{ℕ, _-_, _≤_, _<_}
+use Prim.Native.Nat.{ℕ, _-_, _≤_}
 use native.Mathlib.Omega.{arith}
 use mathlib.Core.Bool.{Bool, true, false}
 use mathlib.Core.List.{List}
 use mathlib.Core.Path.{_≡_, refl, sym, ap, _∙_}
-use lib.ListN.{length, getD}
+use lib.ListN.{length}
 use Rattle.basis.specs.Pick.{pick}
 use Rattle.chars.specs.declared.cursor.Cursor.{Cursor}
 use Rattle.find.specs.Find.{findOf}

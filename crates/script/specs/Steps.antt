@@ -1,6 +1,5 @@
 -- One step of a run by the unlimited rules: document 01, "Run".
 use Prim.Native.Nat.{ℕ, _-_}
-use mathlib.Core.Bool.{Bool}
 use mathlib.Core.List.{List, []}
 use lib.Dec.{eqb, leb}
 use lib.ListN.{length}
@@ -12,7 +11,7 @@ use Rattle.white.specs.White.{isWhite}
 use Rattle.chars.specs.declared.cursor.Cursor.{Cursor}
 use Rattle.fault.specs.declared.Part.{Part}
 use Rattle.fault.specs.declared.Fault.{Fault}
-use Rattle.fault.specs.Faults.{part, stillOpen, notOneCharacter, tooDeep}
+use Rattle.fault.specs.Faults.{part, stillOpen}
 use Rattle.literal.specs.declared.End.{End}
 use Rattle.literal.specs.Trace.{Trace, bytes, final, Outcome, good, bad}
 use Rattle.raw_scan.specs.Raw.{readOf, asSource}

@@ -1,7 +1,7 @@
 // Where a run over a script stands: the Rust's TokenizeState, by value. specs/ has the reading of a script by the unlimited rules.
 ghost use mathlib.Core.Path.{_≡_};
-ghost use Prim.Native.Nat.{_≤_, _<_};
-ghost use Rattle.script.specs.States.{begun, movedTo, interpolated, counted, opened, closed, Fine, Fits, behindOf};
+ghost use Prim.Native.Nat.{_<_};
+ghost use Rattle.script.specs.States.{begun, movedTo, interpolated, opened, closed, Fine, Fits, behindOf};
 ghost use Rattle.script.specs.Counts.{passedOf, counts};
 use chars::cursor::Cursor;
 use position::Position;

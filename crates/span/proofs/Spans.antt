@@ -1,6 +1,6 @@
 -- Spans in and out, for crates above that never look inside one.
 -- Assumes nothing.
-use mathlib.Core.Bool.{true, false}
+use mathlib.Core.Bool.{true}
 use mathlib.Core.Path.{_≡_, refl}
 use Rattle.position.specs.Place.{none, isNone}
 use Rattle.span.specs.Spans.{newSpan, noSpan, startOf, endOf, isNoSpan}

@@ -2,11 +2,11 @@
 use Prim.Native.Nat.{ℕ, suc, _+_, _-_}
 use mathlib.Core.Bool.{Bool, true, false}
 use mathlib.Core.List.{List, [], _∷_, _++_}
-use mathlib.Core.Path.{_≡_, refl, sym, ap, _∙_}
-use lib.ListN.{length, drop}
+use mathlib.Core.Path.{_≡_, refl, ap, _∙_}
+use lib.ListN.{length}
 use lib.Seq.{drop-append-seam}
 use Rattle.position.specs.declared.Position.{Position}
-use Rattle.utf8.specs.Table.{Ch, ch, charsAt, lookAt, wellFrom, well}
+use Rattle.utf8.specs.Table.{Ch, ch, charsAt, wellFrom, well}
 use Rattle.utf8.specs.Encode.{isScalar, encode, encoded}
 use Rattle.utf8.proofs.Encodes.{encoded-scalar, encoded-none}
 use Rattle.utf8.proofs.Finds.{look-encode}

@@ -1,21 +1,19 @@
 -- A doubled terminator is one turn, which adds it once. Assumes nothing.
 use Prim.Native.Nat.{ℕ, _+_}
-use mathlib.Core.Bool.{Bool, false}
 use mathlib.Core.List.{List}
-use mathlib.Core.Path.{_≡_, refl, sym, ap, _∙_}
-use lib.Dec.{eqb}
+use mathlib.Core.Path.{_≡_, refl}
 use borrow.Author.Tests.{eq-eqb}
 use Rattle.basis.specs.Pick.{both}
 use Rattle.basis.proofs.Cases.{both-no}
 use Rattle.position.specs.declared.Position.{Position}
-use Rattle.position.specs.Place.{isNone, orElse, advanced}
+use Rattle.position.specs.Place.{orElse, advanced}
 use Rattle.utf8.specs.Table.{lookAt}
 use Rattle.utf8.specs.declared.Look.the-variants.{Char}
 use Rattle.white.specs.White.{isWhite}
 use Rattle.chars.specs.Cursors.{cursor}
 use Rattle.chars.specs.declared.cursor.Cursor.{Cursor}
 use Rattle.chars.proofs.Cursors.{ate}
-use Rattle.string_take.specs.Kinds.{isVerbatim, isInterpolated}
+use Rattle.string_take.specs.Kinds.{isInterpolated}
 use Rattle.string_take.specs.Turns.{state, isEmpty, dollarOf, takeOf}
 use Rattle.string_take.specs.declared.Pending.the-variants.{Empty}
 use Rattle.string_take.specs.declared.State.{State}

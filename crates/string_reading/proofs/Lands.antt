@@ -6,7 +6,7 @@ use mathlib.Core.List.{List, [], _∷_}
 use mathlib.Core.Path.{_≡_, refl}
 use lib.ListN.{length}
 use Rattle.position.specs.declared.Position.{Position}
-use Rattle.utf8.specs.Table.{Ch, ch, charsAt, lookAt}
+use Rattle.utf8.specs.Table.{Ch, ch, charsAt}
 use Rattle.utf8.specs.Encode.{isScalar, encoded}
 use Rattle.utf8.proofs.Encodes.{encoded-scalar, encoded-none, size-bounds}
 use Rattle.chars.specs.Scan.{Turn, go, stop}

@@ -1,9 +1,9 @@
 -- Plain characters of a string literal: a turn takes one, tests the limit and adds it, and nothing else. Many of them at once, by the law of stretches. Assumes nothing.
-use Prim.Native.Nat.{ℕ, _+_, _≤_}
+use Prim.Native.Nat.{ℕ, _+_}
 use native.Mathlib.Omega.{arith}
 use mathlib.Core.Bool.{Bool, true, false}
 use mathlib.Core.List.{List}
-use mathlib.Core.Path.{_≡_, refl, sym, ap, _∙_}
+use mathlib.Core.Path.{_≡_, refl, ap, _∙_}
 use lib.Dec.{eqb}
 use borrow.Author.Tests.{le-ltb}
 use Rattle.basis.specs.Pick.{pick, both}
@@ -20,7 +20,7 @@ use Rattle.chars.specs.Scan.{runAt}
 use Rattle.chars.specs.declared.cursor.Cursor.{Cursor}
 use Rattle.chars.proofs.Cursors.{ate, got, got-none}
 use Rattle.chars.proofs.Stretches.{is-other}
-use Rattle.literal.specs.Trace.{Trace, adds, checks}
+use Rattle.literal.specs.Trace.{adds, checks}
 use Rattle.string_take.specs.Kinds.{lf, cr, dollar, backslash, backtick, leftBrace, isVerbatim, isInterpolated}
 use Rattle.string_take.specs.Endings.{once}
 use Rattle.string_take.specs.Turns.{state, isEmpty, nextIs, onTaken, dollarOf, takeOf}

@@ -24,7 +24,6 @@ use Rattle.string_take.specs.Turns.{endOf, takeOf}
 use Rattle.string_act.specs.Turns.{actOf}
 use Rattle.string_take.specs.declared.State.{State}
 use Rattle.string_take.specs.declared.Last.{Last}
-use Rattle.string_take.specs.declared.Got.{Got}
 use Rattle.string_take.specs.declared.Got.the-variants as got
 use Rattle.string_act.specs.declared.Step.the-variants as step
 use Rattle.string_take.proofs.Reaching.{take-gets}

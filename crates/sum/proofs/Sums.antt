@@ -1,13 +1,12 @@
 -- The ways through the sum of two places, each with the tests that lead there as the code has them.
 -- Assumes nothing.
 use Prim.Native.Nat.{ℕ, _+_, _-_, _≤_, _<_}
-use mathlib.Core.Bool.{Bool, true, false}
-use mathlib.Core.Path.{_≡_, sym, ap, _∙_}
+use mathlib.Core.Bool.{true, false}
+use mathlib.Core.Path.{_≡_}
 use borrow.Author.Tests.{eq-eqb, ne-eqb, lt-ltb, le-ltb}
 use Rattle.basis.proofs.Cases.{both-no}
 use Rattle.position.specs.Place.{given, lineNumber, columnNumber, isNone, onLine}
 use Rattle.position.specs.declared.Position.{Position}
-use Rattle.coordinates.specs.declared.Placed.{Placed}
 use Rattle.coordinates.specs.declared.Placed.the-variants.{At, Refused}
 use Rattle.sum.specs.Sum.{passes, sumOn, sumLines, sumOf}
 

@@ -1,6 +1,6 @@
 -- What is recorded, for each way out. Assumes nothing.
 use Prim.Native.Nat.{ℕ}
-use mathlib.Core.Path.{_≡_, refl}
+use mathlib.Core.Path.{_≡_}
 use borrow.Author.Tests.{eq-eqb, ne-eqb}
 use Rattle.position.specs.declared.Position.{Position}
 use Rattle.coordinates.specs.declared.Placed.{Placed}

@@ -1,7 +1,6 @@
 -- What the lookup found, or else what no list has.
-use mathlib.Core.Path.{sym, ap, _∙_}
+use mathlib.Core.Path.{sym, _∙_}
 use borrow.Author.Needs.{needs}
-use Rattle.identifier.specs.declared.Class.the-variants.{Is}
 use Rattle.identifier.proofs.Answers.{class-listed, class-unlisted}
 use Rattle.identifier.proofs.class_of.Statement.{statement}
 use Rattle.identifier.proofs.class_of.Tie as tie

@@ -1,5 +1,5 @@
 -- The first character is taken whichever it is; what goes on behind it is passed; what stands between is classified.
-use Prim.Native.Nat.{ℕ, _≤_, _<_}
+use Prim.Native.Nat.{ℕ, _≤_}
 use native.Mathlib.Omega.{arith}
 use mathlib.Core.List.{List}
 use mathlib.Core.Path.{_≡_, sym, ap, _∙_}
@@ -9,7 +9,6 @@ use Rattle.chars.specs.Cursors.{getNextOf}
 use Rattle.chars.specs.declared.cursor.Cursor.{Cursor}
 use Rattle.chars.specs.declared.cursor.Taken.the-variants as taken
 use Rattle.identifier.specs.Identifiers.{answered, spanned, identifyOf, classOf, between}
-use Rattle.identifier.specs.declared.Class.{Class}
 use Rattle.identifier.proofs.Answers.{nothing-there, begins-here, first-within}
 use Rattle.identifier.proofs.identify.Statement.{statement}
 use Rattle.identifier.proofs.identify.Tie as tie

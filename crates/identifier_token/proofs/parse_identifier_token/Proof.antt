@@ -1,5 +1,5 @@
 -- Who is let in is identified, under a book that was found good.
-use mathlib.Core.Path.{_≡_, sym, ap, _∙_}
+use mathlib.Core.Path.{sym, _∙_}
 use borrow.Author.Needs.{needs}
 use Rattle.identifier_token.proofs.Arguments.{good-book, let-in, refused}
 use Rattle.identifier_token.proofs.parse_identifier_token.Statement.{statement}

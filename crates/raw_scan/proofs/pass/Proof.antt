@@ -1,5 +1,5 @@
 -- What was passed is a stretch, and a stretch leaves the answer as it is: proofs/Passing.antt.
-use Prim.Native.Nat.{ℕ, _+_, _≤_}
+use Prim.Native.Nat.{_+_, _≤_}
 use native.Mathlib.Omega.{arith}
 use mathlib.Core.Path.{refl, ap, _∙_}
 use borrow.Author.Needs.{needs}

@@ -1,6 +1,5 @@
 -- The row of the entry's numbers goes to its part of the memory.
 use borrow.Author.Needs.{needs}
-use native.Mathlib.Omega.{arith}
 use Rattle.run_bytes.proofs.Rows.{entry-stored, row-is}
 use Rattle.run_bytes.proofs.store.Statement.{statement}
 use Rattle.run_bytes.proofs.store.Tie as tie

@@ -1,8 +1,8 @@
 -- What was passed is a stretch of characters that go on; where it stops none does: proofs/Ends.antt.
-use Prim.Native.Nat.{ℕ, _+_, _-_, _≤_}
+use Prim.Native.Nat.{ℕ, _-_, _≤_}
 use native.Mathlib.Omega.{arith}
 use mathlib.Core.List.{List}
-use mathlib.Core.Path.{_≡_, refl, sym}
+use mathlib.Core.Path.{refl, sym}
 use lib.ListN.{length}
 use borrow.Author.Needs.{needs}
 use Rattle.utf8.proofs.Bits.{look-ascii}

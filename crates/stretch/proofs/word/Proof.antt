@@ -1,5 +1,5 @@
 -- Each byte that was passed is a character that goes on; where it stops none begins that does: proofs/Ends.antt.
-use Prim.Native.Nat.{ℕ, _-_, _≤_}
+use Prim.Native.Nat.{_-_, _≤_}
 use native.Mathlib.Omega.{arith}
 use mathlib.Core.Path.{_≡_}
 use lib.ListN.{length}

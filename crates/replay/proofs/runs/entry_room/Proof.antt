@@ -2,7 +2,6 @@
 use mathlib.Core.Path.{sym}
 use native.Mathlib.Omega.{arith}
 use lib.Seq.{length-take-le}
-use borrow.Author.Needs.{needs}
 use Rattle.replay.proofs.runs.entry_room.Statement.{statement}
 use Rattle.replay.proofs.runs.entry_room.Tie as tie
 
