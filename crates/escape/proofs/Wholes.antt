@@ -5,12 +5,12 @@ use native.Mathlib.Omega.{arith}
 use native.Mathlib.Nat.{add-zero, add-assoc}
 use mathlib.Core.Bool.{Bool, true, false}
 use mathlib.Core.List.{List}
-use mathlib.Core.Path.{_≡_, refl, sym, ap, _∙_}
+use mathlib.Core.Path.{_≡_, refl, sym, _∙_}
 use lib.ListN.{length, getD}
 use Rattle.basis.specs.Pick.{pick}
 use Rattle.basis.proofs.Cases.{not-both}
 use Rattle.position.specs.declared.Position.{Position}
-use Rattle.position.specs.Place.{start, advanced, advancedBy}
+use Rattle.position.specs.Place.{start, advancedBy}
 use Rattle.position.proofs.Moves.{advanced-by-none, advanced-by-more}
 use Rattle.utf8.specs.Table.{_‥_, within, lookAt}
 use Rattle.utf8.specs.Encode.{isScalar}
@@ -19,13 +19,10 @@ use Rattle.utf8.proofs.Bits.{look-ascii}
 use Rattle.utf8.proofs.Ranges.{within-high}
 use Rattle.classes.specs.Class.{digitOf}
 use Rattle.chars.specs.Cursors.{cursor}
-use Rattle.chars.specs.declared.cursor.Cursor.{Cursor}
 use Rattle.chars.proofs.Cursors.{ate}
-use Rattle.escape.specs.Escapes.{nothing, letterOf, digitsAfter, digitsFrom, numberOf, escapedOf}
-use Rattle.escape.specs.Whole.{Digits-at, whole, Whole-at, none, stands, itself}
-use Rattle.escape.specs.declared.Digits.the-variants.{Value}
-use Rattle.escape.specs.declared.Escaped.{Escaped}
-use Rattle.escape.specs.declared.Escaped.the-variants.{Char, Other}
+use Rattle.escape.specs.Escapes.{nothing, letterOf, digitsAfter}
+use Rattle.escape.specs.Whole.{Digits-at, whole, Whole-at, stands, itself}
+use Rattle.escape.specs.declared.Escaped.the-variants.{Char}
 use Rattle.escape.proofs.Ways.{Counting, counting-start, counting-done, counting-small, counting-more, digits-scalar, escapes-letter, escapes-other, escapes-number}
 
 -- ---- a scalar value is not the number that stands for none

@@ -1,7 +1,7 @@
 -- What begins at a place of a script: document 01, "Run": "Skips White_Space, then: letter or `_` an identifier; digit a number run; `"`, `'`, backtick; `#` before `{` is a symbol, else raw; `//` to before LF; `/*`; else the longest listed symbol".
 use Prim.Native.Nat.{ℕ, _+_, _-_}
 use Prim.Native.Char.{code}
-use mathlib.Core.Bool.{Bool, true, false}
+use mathlib.Core.Bool.{Bool}
 use mathlib.Core.List.{List}
 use lib.Dec.{eqb}
 use Rattle.basis.specs.Pick.{pick, either}

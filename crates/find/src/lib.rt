@@ -18,7 +18,6 @@ ghost use Rattle.find.specs.Find.{
   signAt,
   markOf,
   beginsWord,
-  beginsOf,
   findOf,
 };
 ghost use Rattle.find.specs.Skip.{skipOf};

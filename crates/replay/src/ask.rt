@@ -13,7 +13,6 @@ use literal::Scanned;
 use position::Position;
 use reserved::Reserved;
 use span::Span;
-use symbols::Longest;
 use token::Lookup;
 
 // The names. A case's numbers are known by the fields that they stand in: in the first line below the terminator is field 1,
@@ -23,7 +22,7 @@ use token::Lookup;
 //     resumed 1 at 1:1 room 9 limit 3 offset 0 [abc"#]     comment 1 at 1:1 offset 0 [*/]
 //     identifier at 1:1 offset 0 [a1], <0000>              the text, and the word book
 //     advance 1:1    rewind 1:1    newline 1:1    sum 1:1 + 2:3    display 1:1    debug 1:1    span 1:1 to 2:3
-//     lookup [let]    syntax 13    symbol offset 1 [a==]    precedence 13    base 70    assignment 13
+//     lookup [let]    syntax 13    precedence 13    base 70    assignment 13
 //     doc [///]    valid [_a1]    white 9
 //     book <0000>    reserved <0000>, [a]    unchecked <0000>, [a]    find <0000>, <0000>, [a]    the house book first
 //     write room 9 [a"#]                                   the raw writer
@@ -58,8 +57,6 @@ const SPAN: usize = 0x7370_616e;
 const LOOKUP: usize = 0x6c6f_6f6b;
 
 const SYNTAX: usize = 0x7379_6e74;
-
-const SYMBOL: usize = 0x7379_6d62;
 
 const PRECEDENCE: usize = 0x7072_6563;
 
@@ -186,18 +183,6 @@ fn identifier(case: Case, text: &[u8], book: &[u8]) {
     }
 }
 
-// Which symbol is the longest.
-fn symbol(case: Case, text: &[u8]) {
-    let l = symbols::longest_symbol(text, case.number(2));
-    match l {
-        Longest::Symbol(t, n) => {
-            show::labelled(show::TOKEN, t as usize);
-            show::labelled(show::LENGTH, n);
-        }
-        Longest::Nothing => show::word(show::NONE),
-    }
-}
-
 // Writes what a book says of a word.
 fn reserved(r: Reserved) {
     show::truth(r.found);
@@ -229,7 +214,6 @@ fn of_text(kind: usize, case: Case, before: &[u8], last: &[u8]) {
         COMMENT => comment(case, last),
         IDENTIFIER => identifier(case, before, last),
         LOOKUP => show::token(keywords::lookup_symbol_from_syntax(last)),
-        SYMBOL => symbol(case, last),
         DOC => show::truth(doc_comment::is_doc_comment(last)),
         _ => show::truth(valid::is_valid_identifier(last)),
     }
@@ -270,7 +254,7 @@ pub fn answer(kind: usize, case: Case, texts: &[u8], out: &mut [u8]) {
             kind,
             case,
         ),
-        COMMENT | IDENTIFIER | LOOKUP | SYMBOL | DOC | VALID => of_text(kind, case, before, last),
+        COMMENT | IDENTIFIER | LOOKUP | DOC | VALID => of_text(kind, case, before, last),
         RUN | LISTING | LAST => of_script(kind, case, before, last),
         _ => of_book(kind, text(case, texts, 2), before, last),
     }

@@ -2,16 +2,13 @@
 use Prim.Native.Nat.{ℕ, zero, suc, _+_, _*_, _/_, _≤_, _<_}
 use native.Mathlib.Omega.{arith}
 use native.Mathlib.Nat.{zero-add}
-use mathlib.Core.Bool.{Bool, true, false}
 use mathlib.Core.List.{List}
 use mathlib.Core.Path.{_≡_, refl, sym, ap, _∙_}
-use lib.Dec.{eqb}
 use lib.ListN.{length, getD, replicate, set, length-set}
 use lib.Seq.{sets}
 use borrow.Author.Tests.{eq-eqb, ne-eqb}
-use Rattle.basis.specs.Pick.{pick}
 use Rattle.basis.specs.Store.{over}
-use Rattle.basis.proofs.Stores.{sets-cons, sets-front}
+use Rattle.basis.proofs.Stores.{sets-front}
 use Rattle.position.specs.Place.{start, lineNumber, columnNumber}
 use Rattle.fault.specs.Faults.{fault}
 use Rattle.run_door.specs.Door.{refusesOf}
@@ -22,13 +19,12 @@ use Rattle.reading.specs.Entries.{numbersOf, laidOut}
 use Rattle.reading.specs.declared.Entry.{Entry}
 use Rattle.reading.specs.declared.Ending.{Ending}
 use Rattle.reading.specs.declared.Ending.the-variants.{Stop}
-use Rattle.reading.proofs.Fits.{Fits, cut-fits}
+use Rattle.reading.proofs.Fits.{cut-fits}
 use Rattle.reading.proofs.Layouts.{laid-length}
-use Rattle.script.specs.Script.{scriptOf, scriptFrom}
-use Rattle.script.specs.States.{begun, Fine}
+use Rattle.script.specs.Script.{scriptOf}
+use Rattle.script.specs.States.{begun}
 use Rattle.run_turn.proofs.Makes.{Stands, left}
-use Rattle.run.specs.Run.{readingOf, boundsOf, runOf, ranOf, literalsOf, entriesOf}
-use Rattle.run.specs.declared.Ran.{Ran}
+use Rattle.run.specs.Run.{readingOf, runOf, ranOf, literalsOf, entriesOf}
 use Rattle.run.proofs.Finishes.{Finished, finish, Running}
 
 -- ---- five numbers for each entry

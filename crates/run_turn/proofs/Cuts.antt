@@ -1,6 +1,5 @@
 -- What is left of a script within the bounds, by what a turn comes to. Assumes nothing.
-use Prim.Native.Nat.{ℕ, _+_, _-_, _≤_, _<_}
-use native.Mathlib.Omega.{arith}
+use Prim.Native.Nat.{ℕ, _+_, _-_, _≤_}
 use native.Mathlib.Nat.{add-zero}
 use mathlib.Core.Bool.{Bool, true, false}
 use mathlib.Core.List.{List, []}
@@ -8,18 +7,15 @@ use mathlib.Core.Path.{_≡_, refl, sym, ap, _∙_}
 use lib.Dec.{ltb}
 use lib.ListN.{length}
 use Rattle.basis.specs.Pick.{pick}
-use Rattle.basis.proofs.Cases.{pick-cases}
 use Rattle.fault.specs.Faults.{noTokenRoom}
-use Rattle.literal.specs.Trace.{Trace, bytes}
+use Rattle.literal.specs.Trace.{bytes}
 use Rattle.literal.specs.declared.Scanned.{Scanned}
 use Rattle.literal.specs.declared.Scanned.the-variants.{Accepted, Refused}
 use Rattle.literal.proofs.Limits.{accepted-whole}
 use Rattle.reading.specs.Reading as Reading
 use Rattle.reading.specs.Reading.{Reading, halts, spoils, lists, reads, Left, ended, more, entry}
 use Rattle.reading.specs.CutRun as CutRun
-use Rattle.reading.specs.CutRun.{Bounds, full, scanned, cutRun}
-use Rattle.reading.specs.declared.Entry.{Entry}
-use Rattle.reading.specs.declared.Ending.{Ending}
+use Rattle.reading.specs.CutRun.{Bounds, scanned, cutRun}
 use Rattle.reading.specs.declared.Ending.the-variants.{Stop}
 use Rattle.script.specs.Steps.{Step, on, over, Note, nothing, token, literal, noted, packedOf, stepOf}
 use Rattle.script.specs.Script.{scriptFrom}

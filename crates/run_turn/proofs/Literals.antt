@@ -2,23 +2,21 @@
 use Prim.Native.Nat.{ℕ, _+_, _-_, _≤_, _<_}
 use native.Mathlib.Omega.{arith}
 use native.Mathlib.Nat.{sub-zero}
-use mathlib.Core.Bool.{Bool, true, false}
+use mathlib.Core.Bool.{true, false}
 use mathlib.Core.List.{List, _++_}
 use mathlib.Core.Path.{_≡_, refl, sym, ap, _∙_}
 use lib.Dec.{eqb}
 use lib.ListN.{length, take, drop, length-take, length-drop, length-append}
 use lib.Seq.{sets, drop-append-seam, take-append-seam}
 use borrow.Author.Tests.{eq-eqb, ne-eqb, le-leb, lt-leb}
-use Rattle.basis.specs.Pick.{pick}
 use borrow.Rule.Slice.PartMut.{putMid}
 use Rattle.basis.specs.Store.{stored, over}
 use Rattle.basis.proofs.Stores.{part-sets, sets-front, stored-whole}
-use Rattle.utf8.specs.Table.{chars, look, lookAt}
+use Rattle.utf8.specs.Table.{chars, lookAt}
 use Rattle.white.specs.White.{isWhite}
 use Rattle.chars.specs.declared.cursor.Cursor.{Cursor}
 use Rattle.literal.specs.Trace.{bytes}
 use Rattle.literal.specs.Cut.{cut}
-use Rattle.literal.specs.declared.Scanned.{Scanned}
 use Rattle.literal.specs.declared.End.{End}
 use Rattle.raw_scan.specs.Raw.{readOf, asSource}
 use Rattle.string_take.specs.Kinds.{apostrophe}

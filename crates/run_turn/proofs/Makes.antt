@@ -14,7 +14,7 @@ use Rattle.literal.specs.declared.Scanned.{Scanned}
 use Rattle.literal.specs.declared.Scanned.the-variants.{Accepted, Refused}
 use Rattle.literal.proofs.Limits.{accepted-whole}
 use Rattle.chars.specs.declared.cursor.Cursor.{Cursor}
-use Rattle.reading.specs.Reading.{Reading, Left, ended, more, entry}
+use Rattle.reading.specs.Reading.{Left, ended, more, entry}
 use Rattle.reading.specs.CutRun.{Bounds, full, scanned, cutRun}
 use Rattle.reading.specs.declared.Entry.{Entry}
 use Rattle.script.specs.Steps.{Step, on, over, Note, nothing, token, literal, packedOf, stepOf}

@@ -7,7 +7,7 @@ use mathlib.Core.Path.{_≡_, refl, sym, ap, _∙_}
 use lib.Dec.{eqb}
 use lib.ListN.{length, length-append}
 use borrow.Author.Tests.{eq-eqb, ne-eqb}
-use Rattle.basis.proofs.Cases.{both-left, both-right}
+use Rattle.basis.proofs.Cases.{both-left}
 use Rattle.utf8.specs.Table.{Ch, codes, chars, well, look}
 use Rattle.utf8.specs.Encode.{isScalar, encode, encodeAll, allScalar}
 use Rattle.utf8.specs.declared.Look.{Look}

@@ -1,37 +1,29 @@
 -- The turn of a literal, for each way out of the functions. Assumes nothing.
-use Prim.Native.Nat.{ℕ, _+_, _-_, _≤_, _<_}
-use native.Mathlib.Omega.{arith}
+use Prim.Native.Nat.{ℕ, _-_, _≤_}
 use mathlib.Core.Bool.{Bool, true, false}
 use mathlib.Core.List.{List}
-use mathlib.Core.Path.{_≡_, refl, sym, ap, _∙_}
+use mathlib.Core.Path.{_≡_, refl, ap, _∙_}
 use lib.Dec.{eqb}
 use lib.ListN.{length}
 use lib.Seq.{sets}
 use borrow.Author.Tests.{eq-eqb, ne-eqb}
-use Rattle.basis.specs.Pick.{pick}
 use Rattle.basis.proofs.Cases.{pick-cases}
-use Rattle.position.specs.declared.Position.{Position}
 use Rattle.fault.specs.declared.Fault.{Fault}
 use Rattle.fault.specs.Faults.{fault, noTokenRoom}
 use Rattle.chars.specs.declared.cursor.Cursor.{Cursor}
 use Rattle.literal.specs.declared.End.{End}
 use Rattle.literal.specs.declared.Refusal.{Refusal}
-use Rattle.literal.specs.declared.Scanned.{Scanned}
 use Rattle.literal.specs.declared.Scanned.the-variants.{Accepted, Refused}
 use Rattle.literal.specs.Trace.{Trace, bytes, final, Outcome, good, bad}
 use Rattle.literal.proofs.Limits.{accepted-whole}
-use Rattle.reading.specs.Reading as Reading
-use Rattle.reading.specs.Reading.{spoils}
-use Rattle.reading.specs.CutRun as CutRun
 use Rattle.reading.specs.CutRun.{Bounds, full, scanned, cutRun}
 use Rattle.reading.specs.declared.Ending.the-variants.{Stop}
-use Rattle.script.specs.States.{movedTo, interpolated, behind, behindOf}
-use Rattle.script.specs.Steps.{Step, on, over, literal, traceOf, wrongOf, faultOf, listedOf, onEnd, literalOf}
+use Rattle.script.specs.States.{interpolated, behind, behindOf}
+use Rattle.script.specs.Steps.{Step, traceOf, wrongOf, faultOf, listedOf, onEnd, literalOf}
 use Rattle.script.specs.declared.State.{State}
 use Rattle.script.proofs.Ahead.{listed-fits}
 use Rattle.run_turn.specs.Turns.{nextOf, stateOf, bytesOf, Went, went, turned, turnOf, kept, keptOf, Leads, listedAs}
-use Rattle.run_turn.specs.declared.Next.{Next}
-use Rattle.run_turn.specs.declared.Next.the-variants.{On, Listed, Over}
+use Rattle.run_turn.specs.declared.Next.the-variants.{Over}
 
 -- a run that is over
 abbrev pub stopped : State → ℕ → Fault → Went

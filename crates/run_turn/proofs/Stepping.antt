@@ -1,13 +1,11 @@
 -- The turn of what is no literal, and which step it is, for each way out of the functions. Assumes nothing.
-use Prim.Native.Nat.{ℕ, _+_, _-_, _≤_, _<_}
+use Prim.Native.Nat.{ℕ, _-_}
 use native.Mathlib.Nat.{add-zero}
 use mathlib.Core.Bool.{Bool, true, false}
 use mathlib.Core.List.{List}
-use mathlib.Core.Path.{_≡_, refl, sym, ap, _∙_}
+use mathlib.Core.Path.{_≡_, refl, sym, ap}
 use lib.Dec.{eqb}
-use lib.ListN.{length}
 use borrow.Author.Tests.{eq-eqb, ne-eqb}
-use Rattle.basis.specs.Pick.{pick}
 use Rattle.basis.proofs.Cases.{pick-cases}
 use Rattle.position.specs.Place.{advanced}
 use Rattle.fault.specs.declared.Fault.{Fault}
@@ -20,12 +18,11 @@ use Rattle.find.proofs.Ahead as Finds
 use Rattle.find.proofs.Ahead.{find-ahead}
 use Rattle.reading.specs.Reading.{Reading, entry, halts}
 use Rattle.reading.specs.CutRun.{Bounds, cutRun}
-use Rattle.reading.specs.declared.Ending.the-variants.{End, Stop}
+use Rattle.reading.specs.declared.Ending.the-variants.{End}
 use Rattle.script.specs.States.{movedTo, behind}
-use Rattle.script.specs.Steps.{Step, on, over, nothing, literalOf, partOf, endOf, onFound, stepOf}
+use Rattle.script.specs.Steps.{on, over, nothing, literalOf, partOf, endOf, onFound, stepOf}
 use Rattle.script.specs.declared.State.{State}
 use Rattle.run_turn.specs.Turns.{within, nextOf, stateOf, bytesOf, Went, went, turnOf, keptOf}
-use Rattle.run_turn.specs.declared.Next.{Next}
 use Rattle.run_turn.specs.declared.Next.the-variants.{On, Listed, Over}
 use Rattle.run_turn.proofs.Reading.{stopped}
 

@@ -8,7 +8,6 @@ use lib.Seq.{sets}
 use Rattle.basis.specs.Pick.{pick}
 use Rattle.position.specs.declared.Position.{Position}
 use Rattle.fault.specs.Faults.{noTokenRoom}
-use Rattle.literal.specs.Trace.{bytes}
 use Rattle.literal.specs.declared.End.{End}
 use Rattle.literal.specs.declared.Scanned.{Scanned}
 use Rattle.literal.specs.declared.Scanned.the-variants.{Accepted, Refused}

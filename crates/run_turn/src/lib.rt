@@ -20,7 +20,7 @@ ghost use Rattle.reading.specs.CutRun.{full, scanned};
 ghost use Rattle.reading.specs.declared.Ending.the-variants.{Stop};
 ghost use Rattle.script.specs.Skips.{skipped};
 ghost use Rattle.token.specs.Tokens.{EOF};
-ghost use Rattle.script.specs.Steps.{terminatorOf, traceOf, wrongOf, faultOf, literalOf, partOf, endOf, stepOf};
+ghost use Rattle.script.specs.Steps.{terminatorOf, traceOf, wrongOf, literalOf, partOf, endOf, stepOf};
 ghost use Rattle.run_turn.specs.declared.Next.the-variants.{Over};
 ghost use Rattle.run_turn.specs.Aside.{Holds, Aside};
 ghost use Rattle.run_turn.specs.Turns.{within, turnOf, keptOf, Leads, Deep, At, Standing, listedAs};

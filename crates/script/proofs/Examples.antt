@@ -1,4 +1,5 @@
 -- Worked examples of a script's reading, under one theorem: document 01's listing, and the readings of docs/DECISIONS.md. Assumes nothing.
+use Prim.Native.Nat.{ℕ}
 use Prim.Native.String.{String}
 use mathlib.Core.List.{List, [], _∷_}
 use mathlib.Core.Path.{_≡_, refl}

@@ -1,14 +1,13 @@
 -- In a script's reading only a test of the limit is 7, at its literal's start, and no rule of its own is 7, 9 or 10. Assumes nothing.
-use Prim.Native.Nat.{ℕ, zero, suc, _+_, _-_, _≤_}
+use Prim.Native.Nat.{ℕ, zero, suc, _-_, _≤_}
 use native.Mathlib.Omega.{arith}
-use mathlib.Core.Bool.{Bool}
 use mathlib.Core.List.{List, [], _∷_}
 use mathlib.Core.Logic.{_⊎_, inl, inr}
 use mathlib.Core.Path.{_≡_, refl, sym}
 use lib.Dec.{eqb, leb}
 use lib.ListN.{length}
 use borrow.Author.Tests.{eqb-true, eqb-false}
-use Rattle.basis.specs.Pick.{pick, isnt}
+use Rattle.basis.specs.Pick.{isnt}
 use Rattle.basis.proofs.Cases.{pick-cases}
 use Rattle.utf8.specs.Table.{chars}
 use Rattle.white.specs.White.{isWhite}

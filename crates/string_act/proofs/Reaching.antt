@@ -25,7 +25,6 @@ use Rattle.string_take.specs.Turns.{state, isEmpty, nextIs, onTaken}
 use Rattle.string_take.specs.declared.Pending.{Pending}
 use Rattle.string_take.specs.declared.Pending.the-variants.{Empty, Backslash}
 use Rattle.string_take.specs.declared.State.{State}
-use Rattle.string_take.specs.declared.Last.{Last}
 use Rattle.string_take.specs.declared.Last.the-variants.{Good, Bad}
 use Rattle.string_take.proofs.Reaching.{Fair, unterminated-fair}
 use Rattle.string_act.specs.Turns.{columnOf, closeOf, lineFeedOf, onEscaped, escapeOf, addOf, plainOf, onPending, otherOf, matchOf, onClosing, actOf}

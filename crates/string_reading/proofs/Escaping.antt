@@ -1,12 +1,10 @@
 -- A whole escape is two turns: one takes the backslash and adds nothing, the other adds what the escape stands for. So is a backslash at the end of a line, which adds nothing. Assumes nothing.
-use Prim.Native.Nat.{ℕ, _+_, _-_, _≤_, _<_}
+use Prim.Native.Nat.{ℕ, _+_, _-_, _≤_}
 use native.Mathlib.Omega.{arith}
-use native.Mathlib.Nat.{add-assoc}
-use mathlib.Core.Bool.{Bool, false}
+use mathlib.Core.Bool.{Bool}
 use mathlib.Core.List.{List}
-use mathlib.Core.Path.{_≡_, refl, sym, ap, _∙_}
+use mathlib.Core.Path.{_≡_, refl, _∙_}
 use lib.Dec.{eqb}
-use lib.ListN.{length}
 use borrow.Author.Tests.{eq-eqb, ne-eqb}
 use Rattle.basis.proofs.Cases.{both-no}
 use Rattle.position.specs.declared.Position.{Position}
@@ -15,7 +13,6 @@ use Rattle.position.proofs.Moves.{advanced-by-none, advanced-by-more, advanced-
 use Rattle.utf8.specs.Table.{lookAt}
 use Rattle.utf8.specs.declared.Look.the-variants.{Char}
 use Rattle.chars.specs.Cursors.{cursor}
-use Rattle.chars.specs.declared.cursor.Cursor.{Cursor}
 use Rattle.chars.proofs.Cursors.{ate}
 use Rattle.escape.specs.Escapes.{nothing, escapedOf}
 use Rattle.escape.specs.Whole.{Whole-at, none, stands, itself}

@@ -1,12 +1,8 @@
 -- In text, a CR before LF is two turns, of which the first adds nothing; `\$` before `{` is one turn, which adds `$`. Assumes nothing.
 use Prim.Native.Nat.{ℕ, _+_}
-use native.Mathlib.Omega.{arith}
 use mathlib.Core.Bool.{Bool, false}
 use mathlib.Core.List.{List}
-use mathlib.Core.Path.{_≡_, refl}
-use lib.Dec.{eqb}
-use borrow.Author.Tests.{eq-eqb}
-use Rattle.basis.proofs.Cases.{both-no}
+use mathlib.Core.Path.{_≡_}
 use Rattle.position.specs.declared.Position.{Position}
 use Rattle.position.specs.Place.{orElse, advanced, lined}
 use Rattle.position.proofs.Moves.{first-stays}

@@ -1,5 +1,5 @@
 -- What is read at once, as the turns that it stands for. Assumes nothing.
-use Prim.Native.Nat.{ℕ, _+_, _≤_, _<_}
+use Prim.Native.Nat.{ℕ, _+_, _<_}
 use native.Mathlib.Omega.{arith}
 use native.Mathlib.Nat.{add-zero}
 use mathlib.Core.Bool.{false}
@@ -17,11 +17,10 @@ use Rattle.utf8.specs.declared.Look.the-variants.{Char}
 use Rattle.utf8.proofs.Bits.{look-ascii}
 use Rattle.utf8.proofs.Encodes.{encoded-none}
 use Rattle.white.specs.White.{isWhite}
-use Rattle.chars.specs.Cursors.{cursor}
 use Rattle.escape.specs.Escapes.{nothing}
 use Rattle.escape.specs.Whole.{Whole-at}
 use Rattle.escape.specs.declared.Whole.{Whole}
-use Rattle.literal.specs.Trace.{Trace, adds, checks, bytes, passes}
+use Rattle.literal.specs.Trace.{adds, checks, bytes, passes}
 use Rattle.literal.specs.Cut.{cut}
 use Rattle.literal.proofs.Turns.{cut-on, cut-adds}
 use Rattle.string_take.specs.Kinds.{lf, cr, quote, apostrophe, backtick, dollar, backslash, leftBrace, isVerbatim, isInterpolated}
@@ -35,7 +34,7 @@ use Rattle.string_reading.proofs.Escaping.{whole-twice, continues-twice}
 use Rattle.string_reading.proofs.Doubling.{doubled-taken, doubled-acted}
 use Rattle.string_reading.proofs.Texts.{feed-twice, sign-once}
 use Rattle.string_scan.specs.Limited.{GoesOn}
-use Rattle.string_scan.specs.Units.{Terminator-of, Stands-at, stateOf, behindOf, Reads, Reads-anywhere}
+use Rattle.string_scan.specs.Units.{Terminator-of, Stands-at, stateOf, Reads, Reads-anywhere}
 use Rattle.string_scan.specs.declared.Clear.{Clear}
 use Rattle.string_scan.specs.declared.Unit.{Unit}
 

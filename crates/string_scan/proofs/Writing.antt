@@ -1,19 +1,16 @@
 -- The body written as it is read: the bytes that are left, stored from here on, make the memory that the whole body makes from the front, where it has room. Assumes nothing.
-use Prim.Native.Nat.{ℕ, _+_, _-_, _≤_, _<_}
+use Prim.Native.Nat.{ℕ, _+_, _-_, _≤_}
 use native.Mathlib.Omega.{arith}
 use native.Mathlib.Nat.{zero-add}
 use mathlib.Core.List.{List, [], _∷_, _++_}
-use mathlib.Core.Path.{_≡_, refl, sym, ap, _∙_}
+use mathlib.Core.Path.{_≡_, refl, sym, _∙_}
 use lib.ListN.{length, length-append}
-use lib.Seq.{sets}
-use Rattle.basis.specs.Store.{stored, over}
+use Rattle.basis.specs.Store.{stored}
 use Rattle.basis.proofs.Stores.{stored-whole, length-stored, sets-append, sets-front}
-use Rattle.position.specs.declared.Position.{Position}
 use Rattle.utf8.specs.Encode.{encoded}
 use Rattle.white.specs.White.{isWhite}
 use Rattle.chars.specs.declared.cursor.Cursor.{Cursor}
 use Rattle.literal.specs.Trace.{Trace, bytes}
-use Rattle.literal.specs.declared.End.{End}
 use Rattle.literal.specs.declared.Refusal.{Refusal}
 use Rattle.literal.specs.declared.Scanned.{Scanned}
 use Rattle.literal.specs.declared.Scanned.the-variants.{Accepted, Refused}

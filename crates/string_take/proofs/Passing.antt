@@ -4,7 +4,7 @@ use native.Mathlib.Omega.{arith}
 use mathlib.Core.Bool.{Bool, true, false}
 use mathlib.Core.List.{List}
 use mathlib.Core.Logic.{⊎-elim}
-use mathlib.Core.Path.{_≡_, refl, sym, ap, _∙_}
+use mathlib.Core.Path.{_≡_, refl, sym, _∙_}
 use lib.ListN.{length, getD}
 use borrow.Author.Tests.{eqb-true}
 use Rattle.basis.specs.Pick.{isnt}
@@ -15,8 +15,6 @@ use Rattle.position.specs.Place.{orElse, advanced, advancedBy}
 use Rattle.position.proofs.Moves.{advanced-by-none, first-stays}
 use Rattle.utf8.proofs.Bits.{look-ascii}
 use Rattle.utf8.proofs.Laws.{at-width}
-use Rattle.utf8.specs.Table.{lookAt}
-use Rattle.utf8.specs.declared.Look.the-variants.{Char}
 use Rattle.chars.specs.Stretch as stretch
 use Rattle.chars.specs.Stretch.{Stretch}
 use Rattle.chars.proofs.Stretches.{stretch-low, stretch-within}

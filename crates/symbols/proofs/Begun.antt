@@ -1,7 +1,7 @@
 -- What the code answers behind each first byte is the longest of the listed symbols that begin with it. Assumes nothing.
 use Prim.Native.Nat.{ℕ, zero-le, _<_}
 use mathlib.Core.Bool.{Bool, true, false}
-use mathlib.Core.Path.{_≡_, refl, sym, _∙_}
+use mathlib.Core.Path.{_≡_, refl, sym}
 use mathlib.Core.List.{List, [], _∷_}
 use lib.Dec.{T, eqb}
 use lib.ListN.{getD}
@@ -13,7 +13,7 @@ use Rattle.classes.specs.Class.{isIdFirstAlphabetic, isIdContinue}
 use Rattle.token.specs.Tokens.{among}
 use Rattle.token.specs.Tokens as Token
 use Rattle.token.specs.Keywords.{keywords}
-use Rattle.token.proofs.Arms.{Arm, arm, Run, run, OnRun, run-is, Answers, Past}
+use Rattle.token.proofs.Arms.{Arm, arm, run, OnRun, run-is, Answers, Past}
 use Rattle.symbols.specs.Symbols.{isSymbol, longer, longestOf}
 use Rattle.symbols.specs.Begun.{followedOf, assignedOf, doubledOf, dotsOf, bangOf, questionOf, hashOf}
 use Rattle.symbols.specs.declared.Longest.{Longest}

@@ -2,7 +2,7 @@
 ghost use mathlib.Core.Path.{_≡_};
 ghost use lib.ListN.{getD};
 ghost use Rattle.classes.specs.Class.{isIdContinue};
-ghost use Rattle.symbols.specs.Symbols.{longestOf, longestSymbolOf};
+ghost use Rattle.symbols.specs.Symbols.{longestOf};
 ghost use Rattle.symbols.specs.Begun.{
   followedOf,
   assignedOf,
@@ -206,14 +206,4 @@ pub fn longest_of(text: &[u8]) -> Longest
         b'#' => hash(text),
         _ => Longest::Nothing,
     }
-}
-
-// The longest listed symbol at an offset, `!in` only if no identifier goes on there.
-pub fn longest_symbol(text: &[u8], at: usize) -> Longest
-    ensures { λ r. ⌜ r ≡ longestSymbolOf (now (text .entry)) at ⌝ }
-{
-    if text.len() < at {
-        return Longest::Nothing;
-    }
-    longest_of(&text[at..])
 }

@@ -1,5 +1,5 @@
 -- Closed, or open at the end.
-use mathlib.Core.Path.{sym, ap, _∙_}
+use mathlib.Core.Path.{sym}
 use borrow.Author.Needs.{needs}
 use Rattle.find.proofs.Begins.{block-closed, block-open}
 use Rattle.find.proofs.block.Statement.{statement}

@@ -1,5 +1,5 @@
 -- A raw literal, or one with a terminator.
-use mathlib.Core.Path.{sym, _∙_}
+use mathlib.Core.Path.{_∙_}
 use borrow.Author.Needs.{needs}
 use Rattle.run_turn.proofs.Literals.{raw-trace, string-trace, string-cut}
 use Rattle.run_turn.proofs.measure.Statement.{statement}

@@ -1,21 +1,19 @@
 -- A text that is due, or what is found behind the white space.
-use Prim.Native.Nat.{ℕ, _≤_}
+use Prim.Native.Nat.{ℕ}
 use native.Mathlib.Omega.{arith}
-use mathlib.Core.Bool.{Bool, false}
+use mathlib.Core.Bool.{false}
 use mathlib.Core.List.{List, []}
 use mathlib.Core.Path.{_≡_, refl, sym, ap, _∙_}
-use lib.ListN.{length}
 use borrow.Author.Needs.{needs}
 use Rattle.chars.specs.declared.cursor.Cursor.{Cursor}
 use Rattle.find.specs.Find.{findOf}
 use Rattle.find.specs.declared.Found.{Found}
 use Rattle.find.proofs.Ahead as Finds
 use Rattle.script.specs.States.{state}
-use Rattle.script.specs.Steps.{Step, onFound, stepOf}
+use Rattle.script.specs.Steps.{onFound, stepOf}
 use Rattle.script.specs.Skips.{skipped}
 use Rattle.script.specs.declared.State.{State}
 use Rattle.script.proofs.Skips.{skipped-due, skipped-on}
-use Rattle.run_turn.specs.Turns.{within, turnOf, keptOf}
 use Rattle.run_turn.proofs.Stepping.{part-any, part-kept, white-turn, white-kept, wrong-turn, wrong-kept, end-any, end-kept, step-due, step-found, found-further}
 use Rattle.run_turn.proofs.turn.Statement.{statement}
 use Rattle.run_turn.proofs.turn.Tie as tie

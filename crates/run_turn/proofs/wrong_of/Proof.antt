@@ -1,9 +1,6 @@
 -- Each test by its law.
 use native.Mathlib.Omega.{arith}
-use mathlib.Core.Path.{_≡_, sym, ap, _∙_}
-use lib.ListN.{length}
-use borrow.Author.Needs.{needs}
-use Rattle.literal.specs.Trace.{bytes}
+use mathlib.Core.Path.{sym, _∙_}
 use Rattle.run_turn.proofs.Literals.{wrong-open, wrong-deep, fits-piece, fits-char, wrong-char, fits-other, char-trace}
 use Rattle.run_turn.proofs.wrong_of.Statement.{statement}
 use Rattle.run_turn.proofs.wrong_of.Tie as tie

@@ -1,8 +1,7 @@
 -- Nothing, or what was passed, by its law: proofs/Leading.antt.
-use Prim.Native.Nat.{ℕ, _+_, _-_, _≤_, _<_}
+use Prim.Native.Nat.{_-_, _≤_}
 use native.Mathlib.Omega.{arith}
-use mathlib.Core.Path.{_≡_, refl}
-use borrow.Author.Needs.{needs}
+use mathlib.Core.Path.{_≡_}
 use Rattle.position.specs.Place.{start}
 use Rattle.string_take.proofs.Passing.{passes-low, passes-within}
 use Rattle.string_scan.proofs.Units.{terminates}

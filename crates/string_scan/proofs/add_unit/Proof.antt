@@ -1,7 +1,7 @@
 -- Nothing, or a unit, by its law: proofs/Leading.antt.
-use Prim.Native.Nat.{_+_, _-_, _≤_, _<_}
+use Prim.Native.Nat.{_+_, _-_}
 use native.Mathlib.Omega.{arith}
-use mathlib.Core.Path.{_≡_, refl, sym, _∙_}
+use mathlib.Core.Path.{sym, _∙_}
 use borrow.Author.Needs.{needs}
 use Rattle.string_scan.specs.Limited.{GoesOn}
 use Rattle.string_scan.specs.Units.{stateOf, behindOf}

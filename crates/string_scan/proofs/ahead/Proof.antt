@@ -1,10 +1,8 @@
 -- One thing leads on behind the other: proofs/Leading.antt.
-use Prim.Native.Nat.{ℕ, _-_, _≤_, _<_}
+use Prim.Native.Nat.{ℕ, _-_, _<_}
 use native.Mathlib.Omega.{arith}
 use mathlib.Core.List.{List}
-use mathlib.Core.Path.{_≡_}
 use lib.ListN.{length}
-use borrow.Author.Needs.{needs}
 use Rattle.string_scan.specs.Standing.{Leads}
 use Rattle.string_scan.specs.Units.{standOf}
 use Rattle.string_scan.specs.declared.Clear.{Clear}

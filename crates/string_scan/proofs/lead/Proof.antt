@@ -1,5 +1,4 @@
 -- Nothing, or what is read ahead where no escape is pending: proofs/Leading.antt.
-use Prim.Native.Nat.{_≤_}
 use borrow.Author.Needs.{needs}
 use Rattle.string_scan.proofs.Leading.{stays, cleared-leads}
 use Rattle.string_scan.proofs.lead.Statement.{statement}

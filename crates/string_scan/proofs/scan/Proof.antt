@@ -1,8 +1,8 @@
 -- The invariant is that what is left, with the bytes so far, is answered as the whole (proofs/Measuring.antt), and that the bytes left, stored from here on, make what the whole body makes (proofs/Writing.antt). Reading ahead keeps both.
-use Prim.Native.Nat.{ℕ, _+_, _-_, _≤_, _<_}
+use Prim.Native.Nat.{ℕ, _-_}
 use native.Mathlib.Omega.{arith}
 use mathlib.Core.List.{List}
-use mathlib.Core.Path.{refl, _∙_}
+use mathlib.Core.Path.{refl}
 use lib.ListN.{length}
 use borrow.Author.Needs.{needs}
 use Rattle.string_scan.specs.Standing.{Measured, Written}

@@ -1,9 +1,7 @@
 -- Nothing, or what each of them reads.
-use Prim.Native.Nat.{_≤_, _<_}
 use native.Mathlib.Omega.{arith}
-use mathlib.Core.Path.{_≡_, refl, sym}
+use mathlib.Core.Path.{refl}
 use borrow.Author.Needs.{needs}
-use Rattle.string_scan.specs.Units.{Reads}
 use Rattle.string_scan.proofs.Units.{terminates, ascii-at}
 use Rattle.string_scan.proofs.unit_at.Statement.{statement}
 use Rattle.string_scan.proofs.unit_at.Tie as tie

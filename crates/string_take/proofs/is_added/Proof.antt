@@ -1,6 +1,6 @@
 -- A character of the four, and what follows it: proofs/Passing.antt.
 use borrow.Author.Needs.{needs}
-use mathlib.Core.Path.{refl, sym}
+use mathlib.Core.Path.{refl}
 use Rattle.basis.proofs.Cases.{not-both}
 use Rattle.string_take.specs.Passing.{feed}
 use Rattle.string_take.proofs.Passing.{is-lone, is-sign, is-slash}

@@ -1,8 +1,7 @@
 -- What was passed so far, and so many bytes are left: proofs/Passing.antt.
-use Prim.Native.Nat.{ℕ, _+_, _-_, _≤_, _<_}
+use Prim.Native.Nat.{_+_, _-_, _≤_}
 use native.Mathlib.Omega.{arith}
 use mathlib.Core.Path.{_≡_, refl}
-use borrow.Author.Needs.{needs}
 use Rattle.string_take.specs.Kinds.{backtick}
 use Rattle.string_take.specs.Passing.{Passes, none, then}
 use Rattle.string_take.proofs.Passing.{passes-low}

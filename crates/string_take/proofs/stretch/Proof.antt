@@ -1,5 +1,4 @@
 -- Nothing is passed, or what was passed is a stretch: proofs/Passing.antt.
-use Prim.Native.Nat.{_+_, _≤_}
 use native.Mathlib.Omega.{arith}
 use borrow.Author.Needs.{needs}
 use Rattle.string_take.specs.Passing.{none}

@@ -6,7 +6,7 @@ use mathlib.Core.List.{List, [], _∷_}
 use Rattle.basis.specs.Words.{word}
 use Rattle.token.specs.Tokens.{among}
 use Rattle.token.specs.Keywords.{keywords}
-use Rattle.token.proofs.Arms.{Arm, arm, run, OnRun, run-is, numbers}
+use Rattle.token.proofs.Arms.{run, OnRun, run-is, numbers}
 use Rattle.word_table.specs.Spelt.{starts, lengthsIn, bitsOf, lengthsOf}
 use Rattle.word_table.proofs.Keyed.{keyed-by}
 use Rattle.word_table.proofs.lengths_of.Statement.{statement}
