@@ -3,7 +3,8 @@ ghost use mathlib.Core.Path.{_≡_};
 ghost use Prim.Native.Nat.{_≤_};
 ghost use lib.ListN.{getD};
 ghost use Rattle.comment.specs.Block.{told};
-ghost use Rattle.numbers.specs.Answer.{returned, answered};
+ghost use Rattle.numbers.specs.Answer.{answered};
+ghost use Rattle.pack.specs.Short.{returned};
 ghost use Rattle.c_comment.specs.Row.{listed, rowOf};
 use chars::cursor::Cursor;
 use comment::Commented;
@@ -48,12 +49,12 @@ pub extern "C" fn stew_scan_block_comment(
     ensures { λ r. ⌜ r ≡ returned (rowOf (now (text .entry)) at line column level) (now (answer .entry)) ⌝ }
     ensures { λ r. ⌜ now (answer .exit) ≡ answered (rowOf (now (text .entry)) at line column level) (now (answer .entry)) ⌝ }
 {
-    if answer.len() < 32 {
-        return 9;
-    }
     let place = Position::given(line, column);
     let scanned = block_comment::scan_block_comment(text, at, place, level);
     let row = row_of(level, Cursor { at, place }, scanned);
+    if answer.len() < 32 {
+        return pack::short_number(row[0]);
+    }
     numbers::write_row(&row, 8, &mut *answer);
     row[0] as u32
 }

@@ -3,7 +3,8 @@ ghost use mathlib.Core.Path.{_≡_};
 ghost use Prim.Native.Nat.{_≤_};
 ghost use lib.ListN.{getD};
 ghost use Rattle.identifier.specs.Told.{told};
-ghost use Rattle.numbers.specs.Answer.{returned, answered};
+ghost use Rattle.numbers.specs.Answer.{answered};
+ghost use Rattle.pack.specs.Short.{returned};
 ghost use Rattle.c_identifier.specs.Row.{listed, rowOf};
 use identifier::Identified;
 use position::Position;
@@ -55,12 +56,12 @@ pub extern "C" fn stew_parse_identifier_token(
     ensures { λ r. ⌜ r ≡ returned (rowOf (now (text .entry)) at line column (now (book .entry))) (now (answer .entry)) ⌝ }
     ensures { λ r. ⌜ now (answer .exit) ≡ answered (rowOf (now (text .entry)) at line column (now (book .entry))) (now (answer .entry)) ⌝ }
 {
-    if answer.len() < 64 {
-        return 9;
-    }
     let place = Position::given(line, column);
     let scanned = identifier_token::parse_identifier_token(text, at, place, book);
     let row = row_of(scanned);
+    if answer.len() < 64 {
+        return pack::short_number(row[0]);
+    }
     numbers::write_row(&row, 8, &mut *answer);
     row[0] as u32
 }

@@ -3,11 +3,12 @@ use Prim.Native.Nat.{ℕ}
 use mathlib.Core.List.{List, [], _∷_}
 use mathlib.Core.Path.{_≡_}
 use Rattle.literal.specs.Cut.{wrote}
-use Rattle.literal.specs.Told.{Told, told}
+use Rattle.literal.specs.Told.{Told, told, number}
 use Rattle.literal.specs.Trace.{Trace}
 use Rattle.literal.specs.declared.Scanned.{Scanned}
-use Rattle.numbers.specs.Answer.{flag, returned, answered, beside}
+use Rattle.numbers.specs.Answer.{flag, answered, beside}
 use Rattle.pack.specs.Numbers.{packed}
+use Rattle.pack.specs.Short.{returnedOr}
 
 -- the number; the offset, the position reached, the first place; the record's character and its count; the body's length; whether `${` ended it; the fault's place, and the offset and length of its part
 abbrev pub listed : Told → List ℕ
@@ -29,8 +30,8 @@ listed t =
 unfoldable pub rowOf : Scanned → List ℕ
 rowOf s = listed (told s)
 
--- what the C name of a scan leaves, s being the scan's answer and t its reading: r is returned, and `out`, lent for the body, and `answer`, lent for the row, then hold out′ and answer′
-pub record Answers (s : Scanned) (t : Trace) (out answer : List ℕ) (r : ℕ) (out′ answer′ : List ℕ) : Type 0 where
-  pub number : r ≡ returned (rowOf s) answer
+-- what the C name of a scan leaves, s being the scan's answer, t its reading, and e the answer of the same scan with one byte of room: r is returned, and `out`, lent for the body, and `answer`, lent for the row, then hold out′ and answer′
+pub record Answers (s e : Scanned) (t : Trace) (out answer : List ℕ) (r : ℕ) (out′ answer′ : List ℕ) : Type 0 where
+  pub number : r ≡ returnedOr (number e) (rowOf s) answer
   pub body : out′ ≡ beside (rowOf s) answer out (wrote s t out)
   pub row : answer′ ≡ answered (rowOf s) answer

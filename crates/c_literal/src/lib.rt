@@ -2,7 +2,9 @@
 ghost use mathlib.Core.Path.{_≡_};
 ghost use Prim.Native.Nat.{_≤_};
 ghost use lib.ListN.{getD};
+ghost use Rattle.literal.specs.Told.{number};
 ghost use Rattle.numbers.specs.Answer.{returned, answered};
+ghost use Rattle.pack.specs.Short.{shortNumber};
 ghost use Rattle.c_literal.specs.Row.{rowOf};
 use literal::Scanned;
 
@@ -45,6 +47,13 @@ fn row_of(s: Scanned) -> [u64; 11]
             ];
         }
     }
+}
+
+// The number for an answer that is too short for the row.
+pub fn short_number(s: Scanned) -> u32
+    ensures { λ r. ⌜ r ≡ shortNumber (number s) ⌝ }
+{
+    pack::short_number(s.fault().number as u64)
 }
 
 // Puts the row into what is lent for it, 8 bytes a number, and answers the first; 9 where it has no room.

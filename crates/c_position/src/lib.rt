@@ -4,7 +4,8 @@ ghost use mathlib.Core.Path.{_≡_};
 ghost use Prim.Native.Nat.{_≤_};
 ghost use lib.ListN.{getD};
 ghost use Rattle.token_ends.specs.Told.{told};
-ghost use Rattle.numbers.specs.Answer.{fitted, returned, answered};
+ghost use Rattle.numbers.specs.Answer.{fitted, answered};
+ghost use Rattle.pack.specs.Short.{returned};
 ghost use Rattle.c_position.specs.Numbers.{placedAsNumber, coordinateAsNumber};
 ghost use Rattle.c_position.specs.Rows.{placeRow, pairRow, placesRow, listed, ends, recordRow};
 use coordinates::Coordinate;
@@ -127,15 +128,15 @@ pub extern "C" fn stew_record_token(
     ensures { λ r. ⌜ r ≡ returned (recordRow token line column (ends line2 column2 line3 column3)) (now (answer .entry)) ⌝ }
     ensures { λ r. ⌜ now (answer .exit) ≡ answered (recordRow token line column (ends line2 column2 line3 column3)) (now (answer .entry)) ⌝ }
 {
-    if answer.len() < 24 {
-        return 9;
-    }
     let place = Position::given(line, column);
     let ends = TokenEnds {
         last: Position::given(line2, column2),
         previous: Position::given(line3, column3),
     };
     let row = recorded_row(token_ends::record_token(ends, token, place));
+    if answer.len() < 24 {
+        return pack::short_number(row[0]);
+    }
     numbers::write_row(&row, 8, &mut *answer);
     row[0] as u32
 }

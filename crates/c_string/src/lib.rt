@@ -1,9 +1,11 @@
 // String literals through C: `parse_string_literal` on numbers and byte slices.
+ghost use mathlib.Core.List.{[], _∷_};
 ghost use Rattle.c_literal.specs.Row.{Answers};
 ghost use Rattle.c_string.specs.Scans.{parsing, parsed};
 use position::Position;
 
-// The body goes to `out`, and the row of eleven numbers to `answer`. Where that is too short for the row, nothing is scanned.
+// The body goes to `out`, and the row of eleven numbers to `answer`. Where that is too short for the row, the
+// scan is asked for its number alone, with a byte of our own.
 #[no_mangle]
 pub extern "C" fn stew_parse_string_literal(
     text: &[u8],
@@ -15,12 +17,20 @@ pub extern "C" fn stew_parse_string_literal(
     out: &mut [u8],
     answer: &mut [u8],
 ) -> u32
-    ensures { λ r. ⌜ Answers (parsed (now (text .entry)) at line column terminator limit (now (out .entry))) (parsing (now (text .entry)) at line column terminator) (now (out .entry)) (now (answer .entry)) r (now (out .exit)) (now (answer .exit)) ⌝ }
+    ensures { λ r. ⌜ Answers (parsed (now (text .entry)) at line column terminator limit (now (out .entry))) (parsed (now (text .entry)) at line column terminator limit (0 ∷ [])) (parsing (now (text .entry)) at line column terminator) (now (out .entry)) (now (answer .entry)) r (now (out .exit)) (now (answer .exit)) ⌝ }
 {
-    if answer.len() < 88 {
-        return 9;
-    }
     let place = Position::given(line, column);
+    if answer.len() < 88 {
+        let mut byte: [u8; 1] = [0];
+        return c_literal::short_number(string::parse_string_literal(
+            text,
+            at,
+            place,
+            terminator,
+            limit,
+            &mut byte,
+        ));
+    }
     let scanned = string::parse_string_literal(text, at, place, terminator, limit, &mut *out);
     c_literal::answer(scanned, &mut *answer)
 }

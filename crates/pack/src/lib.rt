@@ -1,6 +1,7 @@
 // How an answer crosses a C name: as one number.
 ghost use mathlib.Core.Path.{_≡_};
 ghost use Rattle.pack.specs.Numbers.{packed, lookupAsNumber, writtenAsNumber};
+ghost use Rattle.pack.specs.Short.{shortNumber};
 use lent::Written;
 use position::Position;
 use token::Lookup;
@@ -31,5 +32,18 @@ pub fn written_as_number(w: Written) -> u64
     match w {
         Written::Done(n) => n as u64,
         Written::Refused(k) => k as u64 * 4294967296,
+    }
+}
+
+// The number for an answer that is too short for its row, from the number that it would have.
+pub fn short_number(n: u64) -> u32
+    ensures { λ r. ⌜ r ≡ shortNumber n ⌝ }
+{
+    match n {
+        1 => 1,
+        2 => 2,
+        3 => 3,
+        14 => 14,
+        _ => 9,
     }
 }

@@ -132,9 +132,11 @@ fn refused(report: &mut Report) {
         }
     }
     let start = Start::front("a*/", (1, 1));
-    compare_short_answers(report, NAME, 4, |answer| {
-        (c::scan_block_comment(start, 1, answer), true)
-    });
+    for (level, applies) in [(1, 9), (0, 3)] {
+        compare_short_answers(report, NAME, 4, applies, |answer| {
+            (c::scan_block_comment(start, level, answer), true)
+        });
+    }
 }
 
 fn doc_comments(report: &mut Report) {

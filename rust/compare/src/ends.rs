@@ -48,7 +48,7 @@ pub fn run(report: &mut Report, size: Size) {
         let [place, last, previous] = [(); 3].map(|()| random_place(&mut random));
         compare(report, token, Ends { last, previous }, place);
     }
-    compare_short_answers(report, NAME, 3, |answer| {
+    compare_short_answers(report, NAME, 3, 9, |answer| {
         let ends = [(3, 7), (3, 5)];
         (c::record_token(PLUS, (3, 9), ends, answer), true)
     });

@@ -248,7 +248,7 @@ impl<'r> Identifiers<'r> {
             }
         }
         let (start, book) = (Start::front("a", (1, 1)), &books.source.bytes);
-        compare_short_answers(self.report, NAME, 8, |answer| {
+        compare_short_answers(self.report, NAME, 8, 9, |answer| {
             (c::parse_identifier_token(start, book, answer), true)
         });
     }

@@ -180,13 +180,14 @@ where
 }
 
 /// Compares what a function does where its answer is too short for its row of `numbers`: it
-/// returns 9, and writes nothing. The Rust has no such answers.
+/// returns the number that applies, and writes nothing. The Rust has no such answers.
 ///
 /// What is asked tells what was returned, and whether all else that was lent is as it was.
 pub fn compare_short_answers(
     report: &mut Report,
     name: &'static str,
     numbers: usize,
+    applies: u32,
     mut ask: impl FnMut(&mut [u8]) -> (u32, bool),
 ) {
     let mut answer = Lent::default();
@@ -197,7 +198,7 @@ pub fn compare_short_answers(
             text: b"",
             given: ("length of the answer", length),
             rust: None,
-            explained: Some(("answer too short", (9, true, true))),
+            explained: Some(("answer too short", (applies, true, true))),
             ours: (returned, rest_as_lent, answer.is_as_lent()),
         });
     }
@@ -284,9 +285,9 @@ mod tests {
     #[test]
     fn short_answers_are_left_alone() {
         let mut report = Report::default();
-        compare_short_answers(&mut report, "f", 1, |_| (9, true));
+        compare_short_answers(&mut report, "f", 1, 9, |_| (9, true));
         assert_eq!((report.cases(), report.differences()), (8, 0));
-        compare_short_answers(&mut report, "f", 1, |answer| {
+        compare_short_answers(&mut report, "f", 1, 9, |answer| {
             answer.fill(0);
             (9, true)
         });

@@ -290,7 +290,7 @@ impl<'r> Literals<'r> {
             room: AMPLE,
         };
         let lent = &mut self.lent;
-        compare_short_answers(self.report, question.name(), 11, |answer| {
+        compare_short_answers(self.report, question.name(), 11, 9, |answer| {
             let returned = question.ask(lent.lend(AMPLE), answer);
             (returned, lent.is_as_lent())
         });

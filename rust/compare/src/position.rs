@@ -26,8 +26,8 @@ pub fn run(report: &mut Report, size: Size) {
     }
 
     let at = (3, 7);
-    compare_short_answers(report, "place", 8, |answer| (c::place(at, answer), true));
-    compare_short_answers(report, "places", 5, |answer| {
+    compare_short_answers(report, "place", 8, 9, |answer| (c::place(at, answer), true));
+    compare_short_answers(report, "places", 5, 9, |answer| {
         (c::places(at, at, answer), true)
     });
 }

@@ -17,7 +17,7 @@ pub fn run(report: &mut Report, size: Size) {
             c::literal_syntax(number, out)
         });
     }
-    compare_short_answers(report, "operators", 9, |answer| {
+    compare_short_answers(report, "operators", 9, 9, |answer| {
         (c::operators(0, answer), true)
     });
     short_texts(report, size);
