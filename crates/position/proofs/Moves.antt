@@ -163,6 +163,9 @@ pub advanced-by-more : (n : ℕ) (p : Position) → advancedBy (n + 1) p ≡ adv
 unfolding advancedBy
 advanced-by-more n p = rw (add-one n)
 
+pub two-columns : (p : Position) → advancedBy 2 p ≡ advanced (advanced p)
+two-columns p = advanced-by-more 1 p ∙ ap advanced (advanced-by-more 0 p ∙ ap advanced (advanced-by-none p))
+
 -- a column before many is one behind them
 pub advanced-by-first : (n : ℕ) (p : Position) → advancedBy n (advanced p) ≡ advanced (advancedBy n p)
 unfolding advancedBy

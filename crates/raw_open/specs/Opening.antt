@@ -5,12 +5,12 @@ use mathlib.Core.List.{List, [], _∷_}
 use lib.Dec.{eqb}
 use Rattle.basis.specs.Pick.{pick}
 use Rattle.position.specs.declared.Position.{Position}
-use Rattle.position.specs.Place.{advanced}
+use Rattle.position.specs.Place.{none, advanced}
 use Rattle.utf8.specs.Table.{Ch}
 use Rattle.chars.specs.Cursors.{cursor}
 use Rattle.chars.specs.Scan.{Turn, go, stop, Rule, runAt}
 use Rattle.chars.specs.declared.cursor.Cursor.{Cursor}
-use Rattle.fault.specs.Faults.{part, unterminatedString, unexpectedInput}
+use Rattle.fault.specs.Faults.{part, fault, unterminatedString, unexpectedInput}
 use Rattle.fault.specs.declared.Fault.{Fault}
 use Rattle.literal.specs.declared.Terminator.{Terminator}
 use Rattle.literal.specs.declared.Refusal.{Refusal}
@@ -31,6 +31,11 @@ nothing = record { c = 0; times = 0 }
 -- a fault, with the cursor where it was found and what is on record then
 abbrev pub refusal : Fault → Cursor → Terminator → Refusal
 refusal f c r = record { fault = f; cursor = c; on_record = r }
+
+-- the refusal that it tells; of an opened literal one by number 0, at no place
+unfoldable pub refusalOf : Opened → Refusal
+refusalOf (At k from) = refusal (fault 0 none) from nothing
+refusalOf (Refused f) = f
 
 -- where a scan of the opening stands: it has counted so many hashes, and is at a place
 pub record Counted : Type 0 where

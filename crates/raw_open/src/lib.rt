@@ -1,7 +1,7 @@
 // The opening of a raw string literal: the Rust's `parse_raw_string_literal` up to where the body begins.
 ghost use mathlib.Core.Path.{_≡_};
 ghost use Rattle.fault.specs.Faults.{faultIn};
-ghost use Rattle.raw_open.specs.Opening.{nothing, refusal, openedOf};
+ghost use Rattle.raw_open.specs.Opening.{nothing, refusal, refusalOf, openedOf};
 ghost use Rattle.raw_open.specs.declared.Opened.the-variants as Opened;
 use chars::cursor::Cursor;
 use chars::cursor::Taken;
@@ -19,6 +19,26 @@ const HASH: u32 = 0x23;
 pub enum Opened {
     At(usize, Cursor),
     Refused(Refusal),
+}
+
+impl Opened {
+    // The refusal; of an opened literal one by number 0, at no place. It is for a `let .. else`, which cannot open the other case.
+    pub fn refusal(self) -> Refusal
+        ensures { λ r. ⌜ r ≡ refusalOf self ⌝ }
+    {
+        match self {
+            Opened::At(_, cursor) => Refusal {
+                fault: Fault {
+                    number: 0,
+                    place: Position::NONE,
+                    part: Part::NONE,
+                },
+                cursor,
+                on_record: Terminator::NONE,
+            },
+            Opened::Refused(refusal) => refusal,
+        }
+    }
 }
 
 // A refusal before the body: nothing is on record yet.

@@ -24,6 +24,10 @@ pub record Adds (lines : Bool) (t : List ℕ) (k at : ℕ) (s : Body) (n next : 
   pub moves : (start : Position)
       → moveAt (rule lines start k) t at s ≡ on (added bytes ∷ tested (tooLong start k (cursor next (r .place))) ∷ []) next r
 
+-- a character that ends an attempt to close
+abbrev pub Failing : ℕ → Type 0
+Failing c = (c ≡ quote → ⊥) × (c ≡ hash → ⊥)
+
 -- characters passed at once leave what a limit and a room make of the rest: from one stand to another, further on, with a body that has grown as much
 pub record Passes (t : List ℕ) (limit room held : ℕ) (s r : Stand) : Type 0 where
   pub low : s .here .at ≤ r .here .at

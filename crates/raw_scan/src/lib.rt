@@ -1,12 +1,16 @@
 // The scan of a raw string literal: the Rust's `parse_raw_string_literal` with nothing written.
 ghost use mathlib.Core.Path.{_≡_};
 ghost use Prim.Native.Nat.{_≤_, _<_};
+ghost use lib.ListN.{length};
+ghost use Rattle.utf8.specs.Table.{lookAt};
+ghost use Rattle.utf8.specs.declared.Look.the-variants.{Char};
+ghost use Rattle.chars.specs.Stretch.{Next};
 ghost use Rattle.fault.specs.Faults.{fault};
 ghost use Rattle.literal.specs.Cut.{cut};
 ghost use Rattle.literal.specs.declared.Scanned.the-variants as Scanned;
-ghost use Rattle.raw_open.specs.Opening.{refusal};
+ghost use Rattle.raw_open.specs.Opening.{quote, refusal};
 ghost use Rattle.raw_scan.specs.Raw.{asSource, ended, refused, bodyOf, readOf};
-ghost use Rattle.raw_scan.specs.Step.{heldOf, behindOf, Passes};
+ghost use Rattle.raw_scan.specs.Step.{heldOf, behindOf, Failing, Passes};
 use chars::cursor::Cursor;
 use chars::cursor::Taken;
 use fault::Fault;
@@ -94,13 +98,10 @@ struct Stand {
 }
 
 // Outside an attempt to close, passes all that is neither a quote nor a line feed, as far as no limit and no room stops it.
-fn pass(text: &[u8], limit: usize, room: usize, held: usize, s: Stand) -> Stand
+fn pass_plain(text: &[u8], limit: usize, room: usize, s: Stand) -> Stand
     requires { ⌜ s .n ≤ room ⌝ }
-    ensures { λ r. ⌜ Passes (now (text .entry)) limit room held s r ⌝ }
+    ensures { λ r. ⌜ Passes (now (text .entry)) limit room 0 s r ⌝ }
 {
-    if 0 < held {
-        return s;
-    }
     let from = s.here.at;
     let place = s.here.place;
     let most = literal::most(limit, room, s.n);
@@ -118,6 +119,97 @@ fn pass(text: &[u8], limit: usize, room: usize, held: usize, s: Stand) -> Stand
     }
 }
 
+// The width of the character at an offset, if it ends an attempt to close; else 0.
+fn failing(text: &[u8], at: usize) -> usize
+    ensures { λ r. ⌜ ((r ≡ 0 → ⊥) → Next (now (text .entry)) Failing at (length (now (text .entry))) r) ⌝ }
+{
+    if text.len() <= at {
+        return 0;
+    }
+    let c = text[at] as u32;
+    if c < 0x80 {
+        if c == QUOTE {
+            return 0;
+        }
+        if c == HASH {
+            return 0;
+        }
+        return 1;
+    }
+    utf8::width(text, at, c)
+}
+
+// Passes a quote with the character behind it, if that ends the attempt to close: a line feed there starts no line.
+fn pass_quote(text: &[u8], limit: usize, room: usize, s: Stand) -> Stand
+    requires { ⌜ (s .n ≤ room) × (lookAt (now text) (s .here .at) ≡ Char quote 1) ⌝ }
+    ensures { λ r. ⌜ Passes (now (text .entry)) limit room 0 s r ⌝ }
+{
+    let at = s.here.at;
+    let place = s.here.place;
+    let w = failing(text, at + 1);
+    if w == 0 {
+        return s;
+    }
+    if literal::most(limit, room, s.n) <= w {
+        return s;
+    }
+    Stand {
+        here: Cursor {
+            at: at + 1 + w,
+            place: place.advanced_by(2),
+        },
+        first: s.first.or_else(place.advanced()),
+        n: s.n + 1 + w,
+    }
+}
+
+// Passes a line feed, or a quote that closes nothing.
+fn pass_one(text: &[u8], limit: usize, room: usize, s: Stand) -> Stand
+    requires { ⌜ s .n ≤ room ⌝ }
+    ensures { λ r. ⌜ Passes (now (text .entry)) limit room 0 s r ⌝ }
+{
+    let at = s.here.at;
+    if text.len() <= at {
+        return s;
+    }
+    let c = text[at] as u32;
+    if c == QUOTE {
+        return pass_quote(text, limit, room, s);
+    }
+    if c != LF {
+        return s;
+    }
+    if literal::most(limit, room, s.n) == 0 {
+        return s;
+    }
+    let place = s.here.place.advanced().lined();
+    Stand {
+        here: Cursor { at: at + 1, place },
+        first: s.first.or_else(place),
+        n: s.n + 1,
+    }
+}
+
+// Outside an attempt to close, passes what is kept, as long as there is any and no limit and no room stops it.
+fn ahead(text: &[u8], limit: usize, room: usize, held: usize, from: Stand) -> Stand
+    requires { ⌜ from .n ≤ room ⌝ }
+    ensures { λ r. ⌜ Passes (now (text .entry)) limit room held from r ⌝ }
+{
+    if 0 < held {
+        return from;
+    }
+    let mut s = from;
+    loop {
+        let at = s.here.at;
+        let kept = pass_one(text, limit, room, s);
+        let next = pass_plain(text, limit, room, kept);
+        if next.here.at == at {
+            return next;
+        }
+        s = next;
+    }
+}
+
 // The length of the body that begins at `from` and that k hashes close, and how it ends, within a limit and a room. The
 // literal's start is where its refusals are reported. A raw body is a part of the text: all from its beginning to here, but
 // for what is held back.
@@ -131,7 +223,7 @@ fn body_of(text: &[u8], start: Cursor, from: Cursor, k: usize, limit: usize, roo
     let mut held = 0;
     let mut n = 0;
     loop {
-        let s = pass(text, limit, room, held, Stand { here, first, n });
+        let s = ahead(text, limit, room, held, Stand { here, first, n });
         here = s.here;
         first = s.first;
         let Taken::Char(c, next) = here.eat_next_and_advance(text) else {
@@ -158,12 +250,9 @@ fn body_of(text: &[u8], start: Cursor, from: Cursor, k: usize, limit: usize, roo
 pub fn measure(text: &[u8], start: Cursor, hashes: usize, limit: usize, room: usize) -> Scanned
     ensures { λ r. ⌜ r ≡ cut (refused 9 start) limit room 0 (readOf asSource (now (text .entry)) start hashes) ⌝ }
 {
-    match raw_open::open(text, start, hashes) {
-        Opened::Refused(refusal) => {
-            return Scanned::Refused(refusal);
-        }
-        Opened::At(k, from) => {
-            return body_of(text, start, from, k, limit, room);
-        }
-    }
+    let opened = raw_open::open(text, start, hashes);
+    let Opened::At(k, from) = opened else {
+        return Scanned::Refused(opened.refusal());
+    };
+    body_of(text, start, from, k, limit, room)
 }

@@ -10,7 +10,7 @@ use lib.ListN.{length, getD, List·getD-eq-default}
 use Rattle.basis.proofs.Bounds.{split}
 use Rattle.position.specs.declared.Position.{Position}
 use Rattle.position.specs.Place.{isNone, orElse, columnNumber, advanced, advancedBy, lined}
-use Rattle.position.proofs.Moves.{advanced-by-none, advanced-by-more, first-set}
+use Rattle.position.proofs.Moves.{two-columns, first-set}
 use Rattle.utf8.specs.Table.{lookAt}
 use Rattle.utf8.specs.Encode.{isScalar, encoded}
 use Rattle.utf8.specs.declared.Look.the-variants.{Char}
@@ -108,9 +108,6 @@ module _ (t : List ℕ) (q : ℕ) (start : Position) (at : ℕ) (s : State) (lim
         low = x .low;
         high = x .high;
       }
-
-two-columns : (p : Position) → advancedBy 2 p ≡ advanced (advanced p)
-two-columns p = advanced-by-more 1 p ∙ ap advanced (advanced-by-more 0 p ∙ ap advanced (advanced-by-none p))
 
 two-on : (at : ℕ) → at + 1 + 1 ≡ at + 2
 two-on at = omega arith

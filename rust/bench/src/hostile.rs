@@ -41,11 +41,14 @@ const STRINGS: [Row; 13] = [
     ("chars of escapes", ["", "'\\u0041',", ""]),
 ];
 
-const RAWS: [Row; 5] = [
+const RAWS: [Row; 8] = [
     ("raw, quotes only", ["#\"", "\"", "\"#"]),
     ("raw, quote every 2 bytes", ["#\"", "a\"", "a\"#"]),
     ("raw, near closings", ["#####\"", "\"####", "\"#####"]),
     ("raw, LFs after quotes", ["#\"", "\"\n", "a\"#"]),
+    ("raw, LFs only", ["#\"", "\n", "\"#"]),
+    ("raw, quotes before Cyrillic", ["#\"", "\"я", "\"#"]),
+    ("raw, hashes one short", ["##\"", "\"#a", "\"##"]),
     ("empty raws", ["", "#\"\"#,", ""]),
 ];
 

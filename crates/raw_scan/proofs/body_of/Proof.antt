@@ -20,17 +20,17 @@ abbrev μ-loop : tie.MeasureT-loop
 
 -- where it stands behind what was passed
 module _ (e : tie.After-eat-next-and-advance Inv-loop μ-loop) where
-  abbrev call : tie.After-pass Inv-loop μ-loop
+  abbrev call : tie.After-ahead Inv-loop μ-loop
   call = e .before .before .before
 
   abbrev start : tie.Start Inv-loop μ-loop
   start = call .before .before .before
 
   abbrev there : Stand
-  there = call .pass .result
+  there = call .ahead .result
 
   stands : Stands (start .args .text .now) (start .args .start) (start .args .from) (start .args .k) (start .args .limit) (start .args .room) (there .here) (there .first) (call .before .loop .held) (there .n)
-  stands = passed _ _ _ _ _ _ (call .before .loop .inv) (call .pass .ensures)
+  stands = passed _ _ _ _ _ _ (call .before .loop .inv) (call .ahead .ensures)
 
 -- the character that was taken
 module _ (k : tie.After-known-told Inv-loop μ-loop) where
@@ -79,7 +79,7 @@ loop-less c =
     let fits = c .before .before in
     let k = fits .before .before .before in
     let e = eaten (taken k) in
-    omega (arith, less _ _ _ _ _ _ (stands e) (ate (taken k)) (held k .before .behind .ensures), call e .pass .ensures .low)
+    omega (arith, less _ _ _ _ _ _ (stands e) (ate (taken k)) (held k .before .behind .ensures), call e .ahead .ensures .low)
 
 loop-again : tie.Need-loop-again Inv-loop μ-loop
 loop-again c =

@@ -7,13 +7,13 @@ use Rattle.position.specs.Place.{orElse}
 use Rattle.chars.proofs.Stretches.{stretch-low}
 use Rattle.raw_scan.specs.declared.Stand.{Stand}
 use Rattle.raw_scan.proofs.Passing.{passes-none, passes-some}
-use Rattle.raw_scan.proofs.pass.Statement.{statement}
-use Rattle.raw_scan.proofs.pass.Tie as tie
+use Rattle.raw_scan.proofs.pass_plain.Statement.{statement}
+use Rattle.raw_scan.proofs.pass_plain.Tie as tie
 
 -- the call that passed
 module _ (k : tie.After-pass) where
   abbrev begin : tie.Start
-  begin = k .before .before .before .before .before
+  begin = k .before .before .before .before
 
   abbrev s : Stand
   s = begin .args .s
@@ -21,20 +21,19 @@ module _ (k : tie.After-pass) where
   low : s .here .at + k .pass .result .count ≤ k .pass .result .at
   low = stretch-low (k .pass .ensures .0)
 
-returns-3 : tie.Need-returns-3
-returns-3 c =
+returns-2 : tie.Need-returns-2
+returns-2 c =
     let first = c .before .before in
     let some = first .before .before .before in
     let k = some .before .before in
     let most = k .before in
-    passes-some _ _ _ _ _ (most .most .ensures .0) (most .most .ensures .1) (omega (arith, most .before .before .if1 .left)) (k .pass .ensures .0) (k .pass .ensures .1) (some .if2 .left)
+    passes-some _ _ _ _ _ (most .most .ensures .0) (most .most .ensures .1) (k .pass .ensures .0) (k .pass .ensures .1) (some .if1 .left)
     (first .before .before .advanced-by .ensures) (first .or-else .ensures ∙ ap (orElse _) (first .before .advanced .ensures)) refl
 
-pub pass-spec : {M : Type 1} → statement M
-pass-spec =
+pub pass-plain-spec : {M : Type 1} → statement M
+pass-plain-spec =
     tie.close
     (tie.spec
-    (λ c. passes-none _ _ _ _ _ (c .before .before .pre))
     (λ c κs. search needs)
     (λ c κs. search needs)
     (λ c. passes-none _ _ _ _ _ (begin (c .before .before) .pre))
@@ -43,4 +42,4 @@ pass-spec =
     (λ c κs. search needs)
     (λ c. omega (arith, low (c .before .before .before .before .before .before)))
     (λ c. let k = c .before .before .before .before .before .before .before in omega (arith, k .pass .ensures .1, k .before .most .ensures .0, low k))
-    returns-3)
+    returns-2)
