@@ -2,7 +2,7 @@
 //!
 //! They are those that the file `archives` lists, in the folder that `STEW_ARCHIVES` names, else in
 //! the one that `rt staticlib` writes to. They are linked only if all of them are there, and `stew`
-//! links two of them itself.
+//! links one of them itself.
 
 use std::env;
 use std::path::{Path, PathBuf};

@@ -1,12 +1,12 @@
-//! Links the archives of the proved run and the proved raw writer.
+//! Links the archive of the proved run and the proved raw writer.
 //!
-//! They are looked for in the folder that `STEW_ARCHIVES` names, else in the one that
-//! `rt staticlib` writes to. Where one is missing, this crate compiles to nothing.
+//! It is looked for in the folder that `STEW_ARCHIVES` names, else in the one that
+//! `rt staticlib` writes to. Where it is missing, this crate compiles to nothing.
 
 use std::env;
 use std::path::{Path, PathBuf};
 
-const ARCHIVES: [&str; 2] = ["c_run", "c_writer"];
+const ARCHIVES: [&str; 1] = ["stew"];
 
 fn main() {
     println!("cargo::rustc-check-cfg=cfg(stew_archive)");

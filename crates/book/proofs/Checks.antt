@@ -8,7 +8,7 @@ use lib.Dec.{eqb, leb}
 use lib.ListN.{length}
 use borrow.Author.Tests.{le-leb, lt-leb, not-true, not-false}
 use Rattle.basis.specs.Pick.{pick}
-use Rattle.contents.specs.Contents.{count, bodies, words, enough}
+use Rattle.book.specs.Contents.{count, bodies, words, enough}
 use Rattle.book.specs.Book.{few, runsOn, allFit, rising, good, checkOf}
 
 few-is : (book : List ℕ) {n : ℕ} → n ≡ count book → few book ≡ leb n 512

@@ -4,8 +4,8 @@ use mathlib.Core.Bool.{true, false}
 use mathlib.Core.List.{List, [], _∷_, map}
 use mathlib.Core.Path.{_≡_, refl}
 use Rattle.basis.specs.Words.{word}
-use Rattle.order.specs.Order.{compared, below}
-use Rattle.contents.specs.Contents.{u16At, count, startAt, sizeAt, wordAt, wordsFrom, words, enough}
+use Rattle.book.specs.Order.{compared, below}
+use Rattle.book.specs.Contents.{u16At, count, startAt, sizeAt, wordAt, wordsFrom, words, enough}
 use Rattle.book.specs.Book.{few, runsOn, ascii, sized, flagged, fit, allFit, belowNext, rising, good, checkOf}
 
 -- the empty book

@@ -4,7 +4,7 @@ use mathlib.Core.Bool.{Bool, false}
 use mathlib.Core.List.{List}
 use mathlib.Core.Path.{_≡_, sym}
 use borrow.Author.Tests.{le-leb, lt-leb}
-use Rattle.contents.specs.Contents.{sizeAt, wordAt}
+use Rattle.book.specs.Contents.{sizeAt, wordAt}
 use Rattle.book.specs.Book.{ascii, sized, flagged, fit}
 
 module _ (book : List ℕ) (k z : ℕ) (d : z ≡ sizeAt book k) where

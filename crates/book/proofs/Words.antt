@@ -9,11 +9,11 @@ use lib.Dec.{eqb}
 use lib.ListN.{length}
 use borrow.Author.Tests.{eq-eqb, ne-eqb}
 use Rattle.basis.proofs.Bounds.{split}
-use Rattle.order.specs.Order.{compared, below}
-use Rattle.order.specs.declared.Order.{Order}
-use Rattle.order.specs.declared.Order.the-variants.{Less, Equal, Greater}
-use Rattle.contents.specs.Contents.{count, bodies, startAt, sizeAt, wordAt, wordsFrom, words}
-use Rattle.contents.proofs.Words.{from-here, from-past, from-start}
+use Rattle.book.specs.Order.{compared, below}
+use Rattle.book.specs.declared.order.Order.{Order}
+use Rattle.book.specs.declared.order.Order.the-variants.{Less, Equal, Greater}
+use Rattle.book.specs.Contents.{count, bodies, startAt, sizeAt, wordAt, wordsFrom, words}
+use Rattle.book.proofs.contents.Words.{from-here, from-past, from-start}
 use Rattle.book.specs.Book.{runsOn, fit, allFit, belowNext, rising}
 
 -- the first k of n words run on, up to the index at

@@ -5,8 +5,8 @@ use mathlib.Core.List.{List, [], _∷_}
 use lib.Dec.{leb, eqb}
 use lib.ListN.{length}
 use Rattle.basis.specs.Pick.{pick, both}
-use Rattle.order.specs.Order.{below}
-use Rattle.contents.specs.Contents.{Entry, count, bodies, words, enough}
+use Rattle.book.specs.Order.{below}
+use Rattle.book.specs.Contents.{Entry, count, bodies, words, enough}
 
 -- at most 512 words
 unfoldable pub few : List ℕ → Bool

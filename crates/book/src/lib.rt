@@ -1,11 +1,14 @@
 // The word book's check (document 01, Word book; stands in for RESERVED_LIST).
+pub mod contents;
+pub mod order;
+
 ghost use mathlib.Core.Path.{_≡_};
 ghost use Prim.Native.Nat.{_<_, _≤_};
 ghost use lib.ListN.{length};
-ghost use Rattle.contents.specs.Contents.{count, bodies, wordAt, words};
+ghost use Rattle.book.specs.Contents.{count, bodies, wordAt, words};
 ghost use Rattle.book.specs.Book.{runsOn, ascii, fit, allFit, rising, checkOf};
-use contents::Rows;
-use order::Order;
+use crate::contents::Rows;
+use crate::order::Order;
 
 // Whether each body starts where the one before it ends, and the last ends at the book's end.
 fn runs_on(book: &[u8], n: usize) -> bool

@@ -1,3 +1,5 @@
 pub mod Cursors
 pub mod Scan
 pub mod Stretch
+pub mod Ends
+pub mod Passing

@@ -1,4 +1,1 @@
-pub mod Ends
-pub mod Returns
-pub mod Turns
-pub mod Small
+pub mod Refusals

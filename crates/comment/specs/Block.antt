@@ -12,9 +12,9 @@ use Rattle.door.specs.Door.{doorOf}
 use Rattle.chars.specs.Scan.{Turn, go, stop, Rule, follows, widths, runAt}
 use Rattle.chars.specs.declared.cursor.Cursor.{Cursor}
 use Rattle.fault.specs.Faults.{fault}
-use Rattle.comment.specs.declared.Comment.{Comment}
-use Rattle.comment.specs.declared.Commented.{Commented}
-use Rattle.comment.specs.declared.Commented.the-variants.{Done, Refused}
+use Rattle.comment.specs.declared.scan.Comment.{Comment}
+use Rattle.comment.specs.declared.scan.Commented.{Commented}
+use Rattle.comment.specs.declared.scan.Commented.the-variants.{Done, Refused}
 
 -- the line feed
 abbrev pub lf : ℕ

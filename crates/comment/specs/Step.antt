@@ -9,9 +9,9 @@ use Rattle.chars.specs.declared.cursor.Cursor.{Cursor}
 use Rattle.chars.specs.declared.cursor.Taken.{Taken}
 use Rattle.chars.specs.declared.cursor.Taken.the-variants.{End}
 use Rattle.comment.specs.Block.{Inside, inside, rule}
-use Rattle.comment.specs.declared.Comment.{Comment}
-use Rattle.comment.specs.declared.Step.{Step}
-use Rattle.comment.specs.declared.Step.the-variants.{On, Over}
+use Rattle.comment.specs.declared.scan.Comment.{Comment}
+use Rattle.comment.specs.declared.scan.Step.{Step}
+use Rattle.comment.specs.declared.scan.Step.the-variants.{On, Over}
 
 -- the next character taken if it is c
 unfoldable pub eatIfOf : List ℕ → Cursor → ℕ → Taken

@@ -2,7 +2,7 @@
 use mathlib.Core.Path.{_≡_, refl}
 use Rattle.basis.specs.Words.{word}
 use Rattle.position.specs.Place.{none, start, given, lineNumber, columnNumber, isNone, beginsLine}
-use Rattle.coordinates.specs.Coordinates.{numbered, lineOf}
+use Rattle.places.specs.Coordinates.{numbered, lineOf}
 use Rattle.span.specs.Spans.{newSpan, noSpan, startOf, endOf}
 use Rattle.display.specs.Decimal.{digit, digits, decimal}
 use Rattle.display.specs.Forms.{colonOf, longOf, displayOf, debugOf, sameOption, sameLine, apart, dashed, between, spanOf}

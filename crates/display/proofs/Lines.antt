@@ -10,8 +10,8 @@ use Rattle.basis.specs.Words.{word}
 use Rattle.position.specs.declared.Position.{Position}
 use Rattle.position.specs.Place.{none, isNone, lineNumber}
 use Rattle.position.proofs.Moves.{only-none}
-use Rattle.coordinates.specs.Coordinates.{lineOf}
-use Rattle.coordinates.proofs.Numbers.{line-some}
+use Rattle.places.specs.Coordinates.{lineOf}
+use Rattle.places.proofs.coordinates.Numbers.{line-some}
 use Rattle.span.specs.declared.Span.{Span}
 use Rattle.span.specs.Spans.{startOf, endOf}
 use Rattle.display.specs.Forms.{longOf, displayOf, debugOf, sameOption, sameLine, apart, dashed, between, spanOf}

@@ -6,13 +6,13 @@ use lib.Dec.{eqb}
 use Rattle.basis.specs.Pick.{pick, both, isnt}
 use Rattle.basis.specs.Words.{word}
 use Rattle.position.specs.declared.Position.{Position}
-use Rattle.coordinates.specs.declared.Coordinate.{Coordinate}
-use Rattle.coordinates.specs.declared.Coordinate.the-variants.{Some, None}
+use Rattle.places.specs.declared.coordinates.Coordinate.{Coordinate}
+use Rattle.places.specs.declared.coordinates.Coordinate.the-variants.{Some, None}
 use Rattle.span.specs.declared.Span.{Span}
 use Rattle.display.specs.declared.Shown.{Shown}
 use Rattle.display.specs.declared.Shown.the-variants as Shown
 use Rattle.position.specs.Place.{none, isNone, beginsLine, lineNumber, columnNumber}
-use Rattle.coordinates.specs.Coordinates.{lineOf}
+use Rattle.places.specs.Coordinates.{lineOf}
 use Rattle.span.specs.Spans.{startOf, endOf}
 use Rattle.display.specs.Decimal.{decimal}
 

@@ -1,4 +1,6 @@
 // The door: what every scan of a text from an offset asks first.
+pub mod run;
+
 ghost use mathlib.Core.Path.{_≡_};
 ghost use Rattle.door.specs.Door.{doorOf};
 
@@ -9,8 +11,8 @@ pub fn door(text: &[u8], at: usize) -> u8
     if 16_777_216 < text.len() {
         return 2;
     }
-    if formed::check(text) {
-        if formed::is_boundary(text, at) {
+    if utf8::formed::check(text) {
+        if utf8::formed::is_boundary(text, at) {
             return 0;
         }
         return 3;

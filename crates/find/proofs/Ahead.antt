@@ -17,20 +17,20 @@ use Rattle.white.specs.White.{isWhite}
 use Rattle.chars.specs.Cursors.{cursor}
 use Rattle.chars.specs.declared.cursor.Cursor.{Cursor}
 use Rattle.fault.specs.Faults.{Own}
-use Rattle.stretch.specs.Stretch.{endOf}
-use Rattle.stretch.specs.declared.Stretch.the-variants as Stretch
-use Rattle.stretch.proofs.Ends.{end-reached}
+use Rattle.chars.specs.Ends.{endOf}
+use Rattle.chars.specs.declared.stretch.Stretch.the-variants as Stretch
+use Rattle.chars.proofs.stretch.Ends.{end-reached}
 use Rattle.identifier.specs.Identifiers.{identifyOf}
-use Rattle.identifier.specs.declared.Identified.{Identified}
-use Rattle.identifier.specs.declared.Identified.the-variants as identified
-use Rattle.identifier.proofs.Ends as Word
-use Rattle.identifier.proofs.Ends.{identified-ahead}
+use Rattle.identifier.specs.declared.scan.Identified.{Identified}
+use Rattle.identifier.specs.declared.scan.Identified.the-variants as identified
+use Rattle.identifier.proofs.scan.Ends as Word
+use Rattle.identifier.proofs.scan.Ends.{identified-ahead}
 use Rattle.symbols.specs.Symbols.{longestSymbolOf}
 use Rattle.symbols.specs.declared.Longest.{Longest}
 use Rattle.symbols.specs.declared.Longest.the-variants.{Symbol, Nothing}
 use Rattle.symbols.proofs.Longer.{offset-within}
 use Rattle.comment.specs.Block.{commentOf}
-use Rattle.comment.proofs.Ends.{comment-reached}
+use Rattle.comment.proofs.scan.Ends.{comment-reached}
 use Rattle.find.specs.Find.{whiteOf, wordOf, numberOf, symbolOf, lineOf, blockOf, signAt, onSign, markOf, beginsWord, beginsOf, onLook, findOf}
 use Rattle.find.specs.declared.Sign.{Sign}
 use Rattle.find.specs.declared.Sign.the-variants as sign

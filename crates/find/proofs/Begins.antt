@@ -22,16 +22,16 @@ use Rattle.white.specs.White.{isWhite}
 use Rattle.white.proofs.Whites.{plain}
 use Rattle.chars.specs.Cursors.{cursor}
 use Rattle.chars.specs.declared.cursor.Cursor.{Cursor}
-use Rattle.stretch.specs.Stretch.{endOf}
-use Rattle.stretch.specs.declared.Stretch.the-variants as Stretch
+use Rattle.chars.specs.Ends.{endOf}
+use Rattle.chars.specs.declared.stretch.Stretch.the-variants as Stretch
 use Rattle.fault.specs.declared.Fault.{Fault}
 use Rattle.fault.specs.Faults.{part, unexpectedInput, stillOpen}
 use Rattle.token.specs.Tokens as Token
 use Rattle.identifier.specs.Identifiers.{identifyOf}
 use Rattle.identifier.specs.Told.{faultOf}
-use Rattle.identifier.specs.declared.Word.{Word}
-use Rattle.identifier.specs.declared.Identified.{Identified}
-use Rattle.identifier.specs.declared.Identified.the-variants as identified
+use Rattle.identifier.specs.declared.scan.Word.{Word}
+use Rattle.identifier.specs.declared.scan.Identified.{Identified}
+use Rattle.identifier.specs.declared.scan.Identified.the-variants as identified
 use Rattle.symbols.specs.declared.Longest.{Longest}
 use Rattle.symbols.specs.declared.Longest.the-variants.{Symbol, Nothing}
 use Rattle.comment.specs.Block.{commentOf}

@@ -19,17 +19,17 @@ use Rattle.white.specs.White.{isWhite}
 use Rattle.chars.specs.Cursors.{cursor}
 use Rattle.chars.specs.declared.cursor.Cursor.{Cursor}
 use Rattle.fault.proofs.Small.{Tells, fault-tells}
-use Rattle.stretch.specs.declared.Stretch.the-variants as Stretch
-use Rattle.stretch.proofs.Small.{end-small}
+use Rattle.chars.specs.declared.stretch.Stretch.the-variants as Stretch
+use Rattle.chars.proofs.stretch.Small.{end-small}
 use Rattle.identifier.specs.Identifiers.{identifyOf}
-use Rattle.identifier.specs.declared.Identified.{Identified}
-use Rattle.identifier.specs.declared.Identified.the-variants as identified
-use Rattle.identifier.proofs.Small.{Identified-small, identified-small}
+use Rattle.identifier.specs.declared.scan.Identified.{Identified}
+use Rattle.identifier.specs.declared.scan.Identified.the-variants as identified
+use Rattle.identifier.proofs.scan.Small.{Identified-small, identified-small}
 use Rattle.symbols.specs.Symbols.{longestSymbolOf}
 use Rattle.symbols.specs.declared.Longest.{Longest}
 use Rattle.symbols.specs.declared.Longest.the-variants.{Symbol, Nothing}
 use Rattle.comment.specs.Block.{commentOf}
-use Rattle.comment.proofs.Small.{comment-small}
+use Rattle.comment.proofs.scan.Small.{comment-small}
 use Rattle.find.specs.Find.{whiteOf, wordOf, numberOf, symbolOf, lineOf, blockOf, codeOf, slashOf, hashOf, signAt, onSign, markOf, beginsWord, beginsOf, onLook, findOf}
 use Rattle.find.specs.declared.Sign.{Sign}
 use Rattle.find.specs.declared.Sign.the-variants as sign

@@ -14,13 +14,13 @@ use Rattle.classes.specs.Class.{isNumericDigit, isIdFirstAlphabetic}
 use Rattle.white.specs.White.{isWhite}
 use Rattle.chars.specs.Cursors.{cursor}
 use Rattle.chars.specs.declared.cursor.Cursor.{Cursor}
-use Rattle.stretch.specs.Stretch.{endOf}
-use Rattle.stretch.specs.declared.Stretch.the-variants as Stretch
+use Rattle.chars.specs.Ends.{endOf}
+use Rattle.chars.specs.declared.stretch.Stretch.the-variants as Stretch
 use Rattle.fault.specs.Faults.{part, unexpectedInput, stillOpen}
 use Rattle.token.specs.Tokens as Token
 use Rattle.identifier.specs.Identifiers.{identifyOf}
-use Rattle.identifier.specs.declared.Identified.{Identified}
-use Rattle.identifier.specs.declared.Identified.the-variants as identified
+use Rattle.identifier.specs.declared.scan.Identified.{Identified}
+use Rattle.identifier.specs.declared.scan.Identified.the-variants as identified
 use Rattle.symbols.specs.Symbols.{longestSymbolOf}
 use Rattle.symbols.specs.declared.Longest.{Longest}
 use Rattle.symbols.specs.declared.Longest.the-variants.{Symbol, Nothing}

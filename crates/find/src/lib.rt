@@ -22,11 +22,11 @@ ghost use Rattle.find.specs.Find.{
 };
 ghost use Rattle.find.specs.Skip.{skipOf};
 use chars::cursor::Cursor;
+use chars::stretch::Stretch;
 use fault::Fault;
 use fault::Part;
-use identifier::Identified;
+use identifier::scan::Identified;
 use position::Position;
-use stretch::Stretch;
 use symbols::Longest;
 use token::tokens;
 use utf8::Look;
@@ -119,7 +119,7 @@ fn block(text: &[u8], from: Cursor) -> Found
     requires { ⌜ from .at ≤ length (now text) ⌝ }
     ensures { λ r. ⌜ r ≡ blockOf (now (text .entry)) from ⌝ }
 {
-    let comment = comment::scan(text, from, 1);
+    let comment = comment::scan::scan(text, from, 1);
     let end = comment.cursor;
     if comment.level == 0 {
         return Found::Part(Found::COMMENT, tokens::COMMENT, end);
@@ -205,7 +205,7 @@ fn mark(text: &[u8], at: usize, place: Position, c: u32, width: usize) -> Found
         Sign::Line => Found::Part(
             Found::COMMENT,
             tokens::COMMENT,
-            stretch::end_of(
+            chars::stretch::end_of(
                 Stretch::Line,
                 text,
                 Cursor {
@@ -230,7 +230,7 @@ fn word(book: &[u8], text: &[u8], start: Cursor) -> Found
     requires { ⌜ good (now book) ≡ true ⌝ }
     ensures { λ r. ⌜ r ≡ wordOf (identifyOf (now (text .entry)) (now (book .entry)) start) ⌝ }
 {
-    let identified = identifier::identify(book, text, start);
+    let identified = identifier::scan::identify(book, text, start);
     let Identified::Found(word) = identified else {
         return Found::Wrong(identified.fault());
     };
@@ -307,7 +307,7 @@ pub fn find(book: &[u8], text: &[u8], from: Cursor) -> Found
         return Found::Part(
             Found::NUMBER,
             tokens::INTEGER_CONSTANT,
-            stretch::end_of(Stretch::Word, text, next),
+            chars::stretch::end_of(Stretch::Word, text, next),
         );
     }
     if white::is_white(c) {

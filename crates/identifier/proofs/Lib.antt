@@ -1,3 +1,1 @@
-pub mod Answers
-pub mod Ends
-pub mod Small
+pub mod Arguments

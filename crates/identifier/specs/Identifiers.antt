@@ -23,21 +23,21 @@ use Rattle.classes.specs.Class.{isIdFirstAlphabetic}
 use Rattle.chars.specs.Cursors.{cursor}
 use Rattle.door.specs.Door.{doorOf}
 use Rattle.chars.specs.declared.cursor.Cursor.{Cursor}
-use Rattle.stretch.specs.Stretch.{endOf}
-use Rattle.stretch.specs.declared.Stretch.the-variants as Stretch
+use Rattle.chars.specs.Ends.{endOf}
+use Rattle.chars.specs.declared.stretch.Stretch.the-variants as Stretch
 use Rattle.fault.specs.Faults.{part, fault, malformedIdentifier}
 use Rattle.keywords.specs.Lookup.{lookupOf}
 use Rattle.token.specs.Tokens as Token
 use Rattle.token.specs.declared.Lookup.{Lookup}
 use Rattle.token.specs.declared.Lookup.the-variants.{Some, None}
 use Rattle.book.specs.Book.{checkOf}
-use Rattle.reserved.specs.Lookup.{reservedOf}
-use Rattle.valid.specs.Valid.{isValidIdentifier}
-use Rattle.identifier.specs.declared.Word.{Word}
-use Rattle.identifier.specs.declared.Class.{Class}
-use Rattle.identifier.specs.declared.Class.the-variants.{Is, Malformed}
-use Rattle.identifier.specs.declared.Identified.{Identified}
-use Rattle.identifier.specs.declared.Identified.the-variants.{Found, Refused}
+use Rattle.book_lookup.specs.Lookup.{reservedOf}
+use Rattle.identifier.specs.Valid.{isValidIdentifier}
+use Rattle.identifier.specs.declared.scan.Word.{Word}
+use Rattle.identifier.specs.declared.scan.Class.{Class}
+use Rattle.identifier.specs.declared.scan.Class.the-variants.{Is, Malformed}
+use Rattle.identifier.specs.declared.scan.Identified.{Identified}
+use Rattle.identifier.specs.declared.scan.Identified.the-variants.{Found, Refused}
 
 -- the kind of a listed word: 2 for a keyword, of letters, and 3 for a symbol
 unfoldable pub kindOf : List ℕ → ℕ

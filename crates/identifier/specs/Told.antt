@@ -6,8 +6,8 @@ use Rattle.fault.specs.Faults.{part, fault}
 use Rattle.fault.specs.declared.Fault.{Fault}
 use Rattle.fault.specs.declared.Part.{Part}
 use Rattle.chars.specs.declared.cursor.Cursor.{Cursor}
-use Rattle.identifier.specs.declared.Identified.{Identified}
-use Rattle.identifier.specs.declared.Identified.the-variants.{Found, Refused}
+use Rattle.identifier.specs.declared.scan.Identified.{Identified}
+use Rattle.identifier.specs.declared.scan.Identified.the-variants.{Found, Refused}
 
 -- what a scan tells: the refusal's number, 0 for none, the place and the part reported with it; the kind and the token of the word; the offset and position reached
 pub record Told : Type 0 where

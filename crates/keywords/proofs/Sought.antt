@@ -16,8 +16,8 @@ use Rattle.token.specs.Tokens as Token
 use Rattle.token.specs.Tokens.{among}
 use Rattle.token.specs.Keywords.{Entry, keywords, textIn}
 use Rattle.token.specs.declared.Lookup.the-variants.{Some, None}
-use Rattle.word_table.specs.Spelt.{numberFrom, numberOf, speltOf, starts, firstIn, firstOf, lengthsIn, bitsOf, lengthsOf, behind, nextOf}
-use Rattle.word_table.proofs.Numbers.{Bytes, bytes, bytes-are, number-same}
+use Rattle.token.specs.Spelt.{numberFrom, numberOf, speltOf, starts, firstIn, firstOf, lengthsIn, bitsOf, lengthsOf, behind, nextOf}
+use Rattle.token.proofs.word_table.Numbers.{Bytes, bytes, bytes-are, number-same}
 use Rattle.keywords.specs.Lookup.{begins, same, lookupIn, lookupOf}
 use Rattle.keywords.proofs.Same.{same-text, same-self, other-length}
 

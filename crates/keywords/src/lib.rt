@@ -2,7 +2,7 @@
 ghost use mathlib.Core.Path.{_≡_};
 ghost use Prim.Native.Nat.{_≤_};
 ghost use lib.ListN.{length};
-ghost use Rattle.word_table.specs.Spelt.{numberOf};
+ghost use Rattle.token.specs.Spelt.{numberOf};
 ghost use Rattle.keywords.specs.Lookup.{lookupOf};
 use token::Lookup;
 use token::tokens::EOF;
@@ -37,16 +37,16 @@ pub fn lookup_symbol_from_syntax(text: &[u8]) -> Lookup
         return Lookup::None;
     }
     let b = text[0];
-    if (word_table::lengths_of(b) >> text.len() as u32) % 2 == 0 {
+    if (token::word_table::lengths_of(b) >> text.len() as u32) % 2 == 0 {
         return Lookup::None;
     }
-    let mut token = word_table::first_of(b);
+    let mut token = token::word_table::first_of(b);
     let v = number_of(text);
     while token != EOF {
-        if word_table::spelt(token) == v {
+        if token::word_table::spelt(token) == v {
             return Lookup::Some(token);
         }
-        token = word_table::next_of(token);
+        token = token::word_table::next_of(token);
     }
     Lookup::None
 }

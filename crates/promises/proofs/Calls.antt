@@ -9,8 +9,8 @@ use Rattle.position.specs.declared.Position.{Position}
 use Rattle.lent.specs.declared.Written.{Written}
 use Rattle.literal.specs.declared.Scanned.{Scanned}
 use Rattle.raw.proofs.parse_raw_string_literal.Reads as scan
-use Rattle.writer.proofs.raw_write.Reads as write
-use Rattle.writer.specs.Writer.{literalOf}
+use Rattle.raw_writer.proofs.raw_write.Reads as write
+use Rattle.raw_writer.specs.Writer.{literalOf}
 use Rattle.promises.specs.RoundTrip.{Utf8, Admits, Valid, Within, Room, made, Comes-back}
 use Rattle.promises.proofs.RoundTrip.{round-trip}
 

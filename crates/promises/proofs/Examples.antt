@@ -11,20 +11,20 @@ use Rattle.door.specs.Door.{doorOf}
 use Rattle.chars.specs.Scan.{run, runAt, widths}
 use Rattle.literal.specs.Trace.{yields, bytes, passes}
 use Rattle.literal.specs.Cut.{cut, wrote}
-use Rattle.escape.specs.Escapes.{letterOf, digitsAfter, digitsFrom, numberOf, escapedOf}
-use Rattle.string_take.specs.Kinds.{isVerbatim, isContinued, isInterpolated}
-use Rattle.string_take.specs.Endings.{unterminatedAt, malformedAt}
-use Rattle.string_take.specs.Turns.{isEmpty, nextIs, endOf, dollarOf, takeOf}
-use Rattle.string_act.specs.Turns.{columnOf, closeOf, lineFeedOf, escapeOf, addOf, plainOf, otherOf, matchOf, actOf}
-use Rattle.string_reading.specs.Ends.{argumentAt, tooLongAt, fullAt, lastOf}
-use Rattle.string_reading.specs.Scans as StringScan
-use Rattle.string.specs.Scans as String
-use Rattle.raw_open.specs.Opening as RawOpen
-use Rattle.raw_scan.specs.Raw as RawScan
-use Rattle.raw.specs.Raw as Raw
+use Rattle.string_turn.specs.Escapes.{letterOf, digitsAfter, digitsFrom, numberOf, escapedOf}
+use Rattle.string_turn.specs.Kinds.{isVerbatim, isContinued, isInterpolated}
+use Rattle.string_turn.specs.Endings.{unterminatedAt, malformedAt}
+use Rattle.string_turn.specs.Take.{isEmpty, nextIs, endOf, dollarOf, takeOf}
+use Rattle.string_turn.specs.Act.{columnOf, closeOf, lineFeedOf, escapeOf, addOf, plainOf, otherOf, matchOf, actOf}
+use Rattle.string.specs.Ends.{argumentAt, tooLongAt, fullAt, lastOf}
+use Rattle.string.specs.Reading as StringScan
+use Rattle.string.specs.Entry as String
+use Rattle.raw.specs.Opening as RawOpen
+use Rattle.raw.specs.Raw as RawScan
+use Rattle.raw.specs.Entries as Raw
 use Rattle.lent.specs.Written.{writtenOf, leftOf}
 use Rattle.basis.specs.Store.{fits, stored, after}
-use Rattle.writer.specs.Writer.{hashesAhead, mostAfterQuote, hashesFor, literalOf, refusesOf, rawWriteOf, rawLeftOf}
+use Rattle.raw_writer.specs.Writer.{hashesAhead, mostAfterQuote, hashesFor, literalOf, refusesOf, rawWriteOf, rawLeftOf}
 use Rattle.comment.specs.Block as Block
 use Rattle.promises.specs.Table.{Checked-examples}
 

@@ -11,7 +11,7 @@ use Rattle.utf8.specs.Encode.{encode, encodeAll, allScalar, isScalar}
 use Rattle.utf8.proofs.Unicode.{scalars-well}
 use Rattle.lent.specs.Written.{writtenOf, leftOf}
 use Rattle.lent.specs.declared.Written.the-variants.{Done}
-use Rattle.writer.specs.Writer.{quote, hash, hashesAhead, mostAfterQuote, hashesFor, literalOf, refusesOf, rawWriteOf, rawLeftOf}
+use Rattle.raw_writer.specs.Writer.{quote, hash, hashesAhead, mostAfterQuote, hashesFor, literalOf, refusesOf, rawWriteOf, rawLeftOf}
 use Rattle.promises.specs.LargeBodies.{Too-long-first, Long-written}
 
 pub too-long-first : Too-long-first

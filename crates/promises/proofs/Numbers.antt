@@ -17,8 +17,8 @@ use Rattle.reading.proofs.Small.{Ending-small}
 use Rattle.run.specs.Run.{runOf}
 use Rattle.run.proofs.Short.{run-small}
 use Rattle.run.proofs.Small.{run-fits-u32}
-use Rattle.run_bytes.specs.Bytes.{bytesOf}
-use Rattle.c_run.specs.Export.{tellsOf}
+use Rattle.run.specs.Bytes.{bytesOf}
+use Rattle.stew.specs.RunAnswer.{tellsOf}
 use Rattle.promises.specs.Numbers.{entryNumbers, answerNumbers, Numbers-fit, Bytes-tell}
 
 -- ---- the seven

@@ -26,15 +26,15 @@ use Rattle.chars.proofs.Cursors.{ate}
 use Rattle.chars.proofs.Scans.{move-over}
 use Rattle.literal.specs.Trace.{Trace, ends, bytes, final, good}
 use Rattle.literal.specs.declared.End.{End}
-use Rattle.raw_open.specs.Opening.{nothing}
-use Rattle.raw_open.specs.declared.Opened.the-variants.{At}
-use Rattle.raw_open.proofs.Openings.{counting, hash-on, quote-on}
-use Rattle.raw_scan.specs.Raw.{lf, asSource, ended, Body, body, rule}
-use Rattle.raw_scan.specs.Step.{Adds}
-use Rattle.raw_scan.proofs.Loops.{went-on}
-use Rattle.raw_scan.proofs.Turns.{quote-adds, hash-closes, hash-adds, line-adds, plain-adds, failed-adds}
-use Rattle.writer.specs.Writer.{quote, hash, hashesAhead, mostAfterQuote}
-use Rattle.writer.proofs.Hashes.{byte-cases, reach}
+use Rattle.raw.specs.Opening.{nothing}
+use Rattle.raw.specs.declared.open.Opened.the-variants.{At}
+use Rattle.raw.proofs.open.Openings.{counting, hash-on, quote-on}
+use Rattle.raw.specs.Raw.{lf, asSource, ended, Body, body, rule}
+use Rattle.raw.specs.Step.{Adds}
+use Rattle.raw.proofs.scan.Loops.{went-on}
+use Rattle.raw.proofs.scan.Turns.{quote-adds, hash-closes, hash-adds, line-adds, plain-adds, failed-adds}
+use Rattle.raw_writer.specs.Writer.{quote, hash, hashesAhead, mostAfterQuote}
+use Rattle.raw_writer.proofs.Hashes.{byte-cases, reach}
 use Rattle.promises.specs.LiteralPlaces.{columns, attempts, behindChar, behindAll, behindFirst}
 use Rattle.promises.proofs.Counts.{quote-bytes, hash-bytes, other-most}
 use Rattle.promises.proofs.Places.{stays, set-once, is-set, behind-line, behind-other, behind-attempt, behind-on}

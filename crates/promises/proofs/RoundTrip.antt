@@ -21,18 +21,18 @@ use Rattle.literal.specs.Told.{told}
 use Rattle.literal.specs.declared.End.{End}
 use Rattle.lent.specs.declared.Written.the-variants.{Done}
 use Rattle.literal.specs.declared.Scanned.the-variants.{Accepted}
-use Rattle.raw_open.specs.Opening.{nothing}
-use Rattle.raw_open.specs.declared.Opened.{Opened}
-use Rattle.raw_open.specs.declared.Opened.the-variants.{At}
-use Rattle.raw_open.proofs.Openings.{is-fresh}
-use Rattle.raw_scan.specs.Raw.{asSource, ended, body as bodyState, bodyOf, leftOf, readOf}
-use Rattle.raw_write.proofs.Parts.{stands-there}
-use Rattle.raw.specs.Raw.{parseTrace, parseOf, entersOf}
+use Rattle.raw.specs.Opening.{nothing}
+use Rattle.raw.specs.declared.open.Opened.{Opened}
+use Rattle.raw.specs.declared.open.Opened.the-variants.{At}
+use Rattle.raw.proofs.open.Openings.{is-fresh}
+use Rattle.raw.specs.Raw.{asSource, ended, body as bodyState, bodyOf, leftOf, readOf}
+use Rattle.raw.proofs.write.Parts.{stands-there}
+use Rattle.raw.specs.Entries.{parseTrace, parseOf, entersOf}
 use Rattle.raw.proofs.Limits.{parse-uncut}
 use Rattle.raw.proofs.Refusals.{on-line, reads-on}
-use Rattle.writer.specs.Writer.{quote, hash, mostAfterQuote, hashesFor, literalOf, rawWriteOf, rawLeftOf}
-use Rattle.writer.proofs.Hashes.{reach}
-use Rattle.writer.proofs.Writes.{length-literal, let-in as let-in-body, done, written}
+use Rattle.raw_writer.specs.Writer.{quote, hash, mostAfterQuote, hashesFor, literalOf, rawWriteOf, rawLeftOf}
+use Rattle.raw_writer.proofs.Hashes.{reach}
+use Rattle.raw_writer.proofs.Writes.{length-literal, let-in as let-in-body, done, written}
 use Rattle.promises.specs.LiteralPlaces.{columns, behindFirst, firstPlace, endPlace}
 use Rattle.promises.specs.RoundTrip.{rawWriter, made, readBack, Round-trip}
 use Rattle.promises.proofs.Places.{unset, columns-on}

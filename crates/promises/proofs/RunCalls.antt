@@ -25,10 +25,10 @@ use Rattle.run.specs.declared.Ran.{Ran}
 use Rattle.run.proofs.Runs.{five}
 use Rattle.run.proofs.Short.{run-small}
 use Rattle.run.proofs.run.Reads as rattle
-use Rattle.run_bytes.specs.Bytes.{bytesOf}
-use Rattle.run_bytes.proofs.Rows.{twenty}
-use Rattle.c_run.specs.Export.{tellsOf, tooShort, leaves, returnedOf, literalsLeft, entriesLeft, answerOf}
-use Rattle.c_run.proofs.stew_run.Reads as c
+use Rattle.run.specs.Bytes.{bytesOf}
+use Rattle.run.proofs.bytes.Rows.{twenty}
+use Rattle.stew.specs.RunAnswer.{tellsOf, tooShort, leaves, returnedOf, literalsLeft, entriesLeft, answerOf}
+use Rattle.stew.proofs.runs.stew_run.Reads as c
 use Rattle.promises.specs.Limits.{First-that-passes, before, unlimited}
 use Rattle.promises.specs.RunCalls.{No-stricter, Called, holds, Repeats-call, C-called, C-holds, listedIn, usedIn, Repeats-C-call}
 use Rattle.promises.proofs.Limits.{ours-meet}

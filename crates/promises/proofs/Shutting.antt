@@ -10,7 +10,7 @@ use Rattle.position.proofs.Moves.{start-on}
 use Rattle.utf8.specs.Table.{look, wellFrom, well}
 use Rattle.literal.specs.Told.{Told}
 use Rattle.literal.proofs.Turns.{no-limit}
-use Rattle.writer.specs.Writer.{hashesAhead, mostAfterQuote, hashesFor, literalOf}
+use Rattle.raw_writer.specs.Writer.{hashesAhead, mostAfterQuote, hashesFor, literalOf}
 use Rattle.promises.specs.RoundTrip.{Writer, Scanner, made, Comes-back, Reads-back, Refuses-all, Fixed-body, Invents-count, Writes-nothing, Shuts-out}
 
 module _ (w : Writer) (s : Scanner) (demand : Reads-back w s) where

@@ -12,14 +12,14 @@ use Rattle.fault.specs.Faults.{noTokenRoom}
 use Rattle.utf8.specs.Table.{look, wellFrom, well}
 use Rattle.chars.specs.Cursors.{cursor}
 use Rattle.book.specs.Book as Book
-use Rattle.contents.specs.Contents as Contents
+use Rattle.book.specs.Contents as Contents
 use Rattle.reading.specs.Reading.{Left, entry}
 use Rattle.reading.specs.CutRun.{Bounds, cutRun}
 use Rattle.reading.specs.declared.Ending.the-variants.{Stop}
 use Rattle.script.specs.Script.{scriptOf}
 use Rattle.script.specs.Steps.{traceOf}
 use Rattle.script.proofs.Examples.{worked}
-use Rattle.run_door.specs.Door.{refusesOf}
+use Rattle.door.specs.RunDoor.{refusesOf}
 use Rattle.run.specs.Run.{readingOf}
 use Rattle.run.proofs.Runs.{run-read}
 use Rattle.promises.specs.Limits.{Runs, Meets, Never-stops, Forgets-bytes, One-literal, Fakes-the-rest, Miscounts, Shuts-out-runs}

@@ -10,7 +10,7 @@ use Rattle.utf8.specs.Table.{chars, codes, well}
 use Rattle.utf8.specs.Encode.{isScalar, encode, encodeAll, allScalar}
 use Rattle.utf8.proofs.Encodes.{scalar-low}
 use Rattle.utf8.proofs.Unicode.{scalars-well, well-encoded}
-use Rattle.writer.specs.Writer.{quote, hash, hashesFor, literalOf}
+use Rattle.raw_writer.specs.Writer.{quote, hash, hashesFor, literalOf}
 use Rattle.promises.specs.RoundTrip.{Stands-anywhere}
 use Rattle.promises.proofs.Counts.{quote-bytes, hash-bytes}
 

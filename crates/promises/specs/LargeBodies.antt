@@ -5,7 +5,7 @@ use mathlib.Core.Path.{_≡_}
 use lib.ListN.{length, replicate}
 use Rattle.basis.specs.Store.{over}
 use Rattle.lent.specs.declared.Written.the-variants.{Done, Refused}
-use Rattle.writer.specs.Writer.{quote, hash, literalOf, rawWriteOf, rawLeftOf}
+use Rattle.raw_writer.specs.Writer.{quote, hash, literalOf, rawWriteOf, rawLeftOf}
 
 -- a body that is too long is 2, whatever it holds and whatever the room
 abbrev pub Too-long-first : Type 0

@@ -7,9 +7,9 @@ use Rattle.basis.specs.Pick.{pick, both, either, isnt}
 use Rattle.position.specs.declared.Position.{Position}
 use Rattle.position.specs.Place.{advanced, lined}
 use Rattle.utf8.specs.Table.{chars, codes}
-use Rattle.raw_open.specs.Opening.{quote, hash}
-use Rattle.raw_scan.specs.Raw.{lf}
-use Rattle.writer.specs.Writer.{hashesFor}
+use Rattle.raw.specs.Opening.{quote, hash}
+use Rattle.raw.specs.Raw.{lf}
+use Rattle.raw_writer.specs.Writer.{hashesFor}
 
 -- n columns on
 unfoldable pub columns : ℕ → Position → Position

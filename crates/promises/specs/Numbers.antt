@@ -8,8 +8,8 @@ use Rattle.reading.specs.Reading.{Left}
 use Rattle.reading.specs.CutRun.{Bounds}
 use Rattle.reading.specs.Entries.{numbersOf, laidOut, U32s}
 use Rattle.run.specs.Run.{runOf}
-use Rattle.run_bytes.specs.Bytes.{bytesOf}
-use Rattle.c_run.specs.Export.{tellsOf}
+use Rattle.run.specs.Bytes.{bytesOf}
+use Rattle.stew.specs.RunAnswer.{tellsOf}
 
 -- the numbers of the entries, and their bytes
 abbrev pub entryNumbers : Left → List ℕ

@@ -18,10 +18,10 @@ use Rattle.literal.specs.Told.{Told, told}
 use Rattle.literal.specs.declared.End.{End}
 use Rattle.literal.specs.declared.Scanned.{Scanned}
 use Rattle.literal.specs.declared.Scanned.the-variants as scanned
-use Rattle.raw_open.specs.Opening.{nothing}
-use Rattle.raw_scan.specs.Raw.{asSource}
-use Rattle.raw.specs.Raw.{parseTrace, parseOf}
-use Rattle.writer.specs.Writer.{literalOf, rawWriteOf, rawLeftOf}
+use Rattle.raw.specs.Opening.{nothing}
+use Rattle.raw.specs.Raw.{asSource}
+use Rattle.raw.specs.Entries.{parseTrace, parseOf}
+use Rattle.raw_writer.specs.Writer.{literalOf, rawWriteOf, rawLeftOf}
 use Rattle.promises.specs.LiteralPlaces.{firstPlace, endPlace}
 
 -- ---- the words of the demand

@@ -14,15 +14,15 @@ use Rattle.literal.specs.Cut.{wrote}
 use Rattle.literal.specs.declared.Scanned.{Scanned}
 use Rattle.literal.specs.declared.Scanned.the-variants as scanned
 use Rattle.comment.specs.Block.{scanBlockCommentOf}
-use Rattle.comment.specs.declared.Commented.{Commented}
-use Rattle.comment.specs.declared.Commented.the-variants as commented
+use Rattle.comment.specs.declared.scan.Commented.{Commented}
+use Rattle.comment.specs.declared.scan.Commented.the-variants as commented
 use Rattle.lent.specs.declared.Written.{Written}
 use Rattle.lent.specs.declared.Written.the-variants as lent
-use Rattle.raw_scan.specs.Raw.{asSource}
-use Rattle.raw.specs.Raw.{parseTrace, parseOf, resumeTrace, resumeOf}
-use Rattle.string_take.specs.Kinds.{quote, backtick}
-use Rattle.string.specs.Scans.{traceOf, scanOf}
-use Rattle.writer.specs.Writer.{rawWriteOf, rawLeftOf}
+use Rattle.raw.specs.Raw.{asSource}
+use Rattle.raw.specs.Entries.{parseTrace, parseOf, resumeTrace, resumeOf}
+use Rattle.string_turn.specs.Kinds.{quote, backtick}
+use Rattle.string.specs.Entry.{traceOf, scanOf}
+use Rattle.raw_writer.specs.Writer.{rawWriteOf, rawLeftOf}
 
 -- what an example says
 pub data Answer : Type 0 where

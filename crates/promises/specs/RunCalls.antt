@@ -14,8 +14,8 @@ use Rattle.reading.specs.Told.{numberOf}
 use Rattle.reading.specs.declared.Ending.the-variants.{Stop}
 use Rattle.run.specs.Run.{ranOf, literalsOf, entriesOf}
 use Rattle.run.specs.declared.Ran.{Ran}
-use Rattle.run_bytes.specs.Bytes.{bytesOf}
-use Rattle.c_run.specs.Export.{tellsOf}
+use Rattle.run.specs.Bytes.{bytesOf}
+use Rattle.stew.specs.RunAnswer.{tellsOf}
 
 -- the second call's limit is nowhere stricter, and it is lent no less memory
 pub record No-stricter (limit limit′ : ℕ) (literals literals′ entries entries′ : List ℕ) : Type 0 where

@@ -18,9 +18,9 @@ use Rattle.literal.specs.declared.End.{End}
 use Rattle.literal.specs.declared.Refusal.{Refusal}
 use Rattle.literal.specs.declared.Scanned.the-variants.{Accepted, Refused}
 use Rattle.literal.proofs.Limits.{accepted-whole, uncut-within, recurs-whole, cut-at-the-first}
-use Rattle.raw_scan.specs.Raw.{readOf, refused}
-use Rattle.raw_scan.proofs.Limits.{read-sevens}
-use Rattle.raw.specs.Raw.{traceOf, entersOf, resumesOf, parseTrace, parseOf, resumeTrace, resumeOf}
+use Rattle.raw.specs.Raw.{readOf, refused}
+use Rattle.raw.proofs.scan.Limits.{read-sevens}
+use Rattle.raw.specs.Entries.{traceOf, entersOf, resumesOf, parseTrace, parseOf, resumeTrace, resumeOf}
 use Rattle.raw.proofs.Refusals.{enters-small, resumes-small}
 
 module _ (lines : Bool) (t : List ℕ) where

@@ -22,8 +22,8 @@ use Rattle.literal.specs.declared.Refusal.{Refusal}
 use Rattle.literal.specs.declared.Scanned.{Scanned}
 use Rattle.literal.specs.declared.Scanned.the-variants.{Refused}
 use Rattle.literal.proofs.Turns.{cut-fails}
-use Rattle.raw_scan.specs.Raw.{readOf, refused}
-use Rattle.raw.specs.Raw.{traceOf, entersOf, resumesOf, parseTrace, parseOf, resumeTrace, resumeOf}
+use Rattle.raw.specs.Raw.{readOf, refused}
+use Rattle.raw.specs.Entries.{traceOf, entersOf, resumesOf, parseTrace, parseOf, resumeTrace, resumeOf}
 
 -- a number asked first, and 3 where a test fails
 abbrev then3 : ℕ → Bool → ℕ

@@ -17,9 +17,9 @@ use Rattle.literal.specs.Cut.{cut}
 use Rattle.literal.specs.declared.Terminator.{Terminator}
 use Rattle.literal.specs.declared.Scanned.{Scanned}
 use Rattle.literal.specs.declared.Scanned.the-variants.{Accepted, Refused}
-use Rattle.raw_open.specs.Opening.{quote, hash, nothing, refusal, cutOff, openingTurn, openedOf}
-use Rattle.raw_scan.specs.Raw.{lf, asSource, hashesOf, ended, heldBack, placed, atEnd, turn, bodyOf, readOf}
-use Rattle.raw.specs.Raw.{traceOf, entersOf, resumesOf, parseTrace, resumeTrace, resumeOf}
+use Rattle.raw.specs.Opening.{quote, hash, nothing, refusal, cutOff, openingTurn, openedOf}
+use Rattle.raw.specs.Raw.{lf, asSource, hashesOf, ended, heldBack, placed, atEnd, turn, bodyOf, readOf}
+use Rattle.raw.specs.Entries.{traceOf, entersOf, resumesOf, parseTrace, resumeTrace, resumeOf}
 
 -- a scan from the start of a text, with the Rust's hash count, at a place; and at 1:1
 abbrev from : Position → ℕ → List ℕ → Trace

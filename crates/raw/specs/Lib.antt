@@ -1,1 +1,4 @@
+pub mod Opening
 pub mod Raw
+pub mod Step
+pub mod Entries

@@ -1,10 +1,14 @@
 // Raw string literals: the entries of the Rust's `parse_raw_string_literal`, which ask their arguments first.
+pub mod open;
+pub mod scan;
+pub mod write;
+
 ghost use mathlib.Core.Path.{_≡_};
 ghost use Prim.Native.Nat.{_≤_};
 ghost use lib.ListN.{length};
 ghost use Rattle.literal.specs.Cut.{cut, wrote};
-ghost use Rattle.raw_scan.specs.Raw.{asSource, refused};
-ghost use Rattle.raw.specs.Raw.{traceOf, resumesOf, parseTrace, parseOf, resumeTrace, resumeOf};
+ghost use Rattle.raw.specs.Raw.{asSource, refused};
+ghost use Rattle.raw.specs.Entries.{traceOf, resumesOf, parseTrace, parseOf, resumeTrace, resumeOf};
 use chars::cursor::Cursor;
 use fault::Fault;
 use fault::Part;
@@ -35,7 +39,7 @@ fn asks(text: &[u8], start: Cursor, hashes: usize) -> u8
 }
 
 // Refuses with the number that the arguments were given; where that is 0, measures, and writes only what is accepted.
-fn scan(
+fn read(
     text: &[u8],
     start: Cursor,
     number: u8,
@@ -60,11 +64,11 @@ fn scan(
             on_record: Terminator::NONE,
         });
     }
-    let scanned = raw_scan::measure(text, start, hashes, limit, out.len());
+    let scanned = scan::measure(text, start, hashes, limit, out.len());
     let Scanned::Accepted(_, len) = scanned else {
         return scanned;
     };
-    raw_write::write(text, start, hashes, len, out);
+    write::write(text, start, hashes, len, out);
     scanned
 }
 
@@ -82,7 +86,7 @@ pub fn parse_raw_string_literal(
 {
     let start = Cursor { at, place };
     let number = asks(text, start, 1);
-    scan(text, start, number, 0, limit, out)
+    read(text, start, number, 0, limit, out)
 }
 
 // The same from anywhere in the body of a literal that so many hashes close.
@@ -99,5 +103,5 @@ pub fn resume_raw_string_literal(
 {
     let start = Cursor { at, place };
     let number = asks(text, start, hashes);
-    scan(text, start, number, hashes, limit, out)
+    read(text, start, number, hashes, limit, out)
 }

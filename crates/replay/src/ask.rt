@@ -4,14 +4,14 @@ use crate::line::Case;
 use crate::line::text;
 use crate::runs;
 use crate::show;
-use comment::Commented;
-use coordinates::Placed;
+use book_lookup::Reserved;
+use comment::scan::Commented;
 use display::Shown;
-use identifier::Identified;
+use identifier::scan::Identified;
 use lent::Written;
 use literal::Scanned;
+use places::coordinates::Placed;
 use position::Position;
-use reserved::Reserved;
 use span::Span;
 use token::Lookup;
 
@@ -131,7 +131,7 @@ fn form(kind: usize, p: Position, q: Position, out: &mut [u8]) -> Written {
 // What is written into lent memory.
 fn written(kind: usize, case: Case, text: &[u8], out: &mut [u8]) -> Written {
     match kind {
-        WRITE => writer::raw_write(text, out),
+        WRITE => raw_writer::raw_write(text, out),
         SYNTAX => syntax::literal_syntax(case.token(1), out),
         _ => form(kind, case.place(1), case.place(4), out),
     }
@@ -140,24 +140,24 @@ fn written(kind: usize, case: Case, text: &[u8], out: &mut [u8]) -> Written {
 // A place moved, or a sum.
 fn moved(kind: usize, p: Position, q: Position) -> Placed {
     match kind {
-        ADVANCE => moves::advance(p),
-        REWIND => moves::rewind(p),
-        NEWLINE => moves::new_line(p),
-        _ => sum::sum(p, q),
+        ADVANCE => places::moves::advance(p),
+        REWIND => places::moves::rewind(p),
+        NEWLINE => places::moves::new_line(p),
+        _ => places::sum::sum(p, q),
     }
 }
 
 // The other one of an operator and its assignment.
 fn partner(kind: usize, t: u8) -> Lookup {
     match kind {
-        BASE => assignments::get_base_op_from_assignment(t),
-        _ => assignments::convert_to_op_assignment(t),
+        BASE => operators::assignments::get_base_op_from_assignment(t),
+        _ => operators::assignments::convert_to_op_assignment(t),
     }
 }
 
 // The scan of a comment.
 fn comment(case: Case, text: &[u8]) {
-    let c = block_comment::scan_block_comment(text, case.number(6), case.place(3), case.number(1));
+    let c = comment::scan_block_comment(text, case.number(6), case.place(3), case.number(1));
     match c {
         Commented::Done(c) => {
             show::labelled(show::LEVEL, c.level);
@@ -169,7 +169,7 @@ fn comment(case: Case, text: &[u8]) {
 
 // The scan of an identifier.
 fn identifier(case: Case, text: &[u8], book: &[u8]) {
-    let i = identifier_token::parse_identifier_token(text, case.number(5), case.place(2), book);
+    let i = identifier::parse_identifier_token(text, case.number(5), case.place(2), book);
     match i {
         Identified::Found(w) => {
             show::word(w.kind);
@@ -202,7 +202,7 @@ fn of_memory(kind: usize, case: Case, text: &[u8], out: &mut [u8]) {
 fn of_numbers(kind: usize, case: Case) {
     match kind {
         ADVANCE | REWIND | NEWLINE | SUM => show::placed(moved(kind, case.place(1), case.place(4))),
-        PRECEDENCE => show::number(precedence::precedence(case.token(1)) as usize),
+        PRECEDENCE => show::number(operators::precedence::precedence(case.token(1)) as usize),
         WHITE => show::truth(white::is_white(case.code(1))),
         _ => show::token(partner(kind, case.token(1))),
     }
@@ -214,8 +214,8 @@ fn of_text(kind: usize, case: Case, before: &[u8], last: &[u8]) {
         COMMENT => comment(case, last),
         IDENTIFIER => identifier(case, before, last),
         LOOKUP => show::token(keywords::lookup_symbol_from_syntax(last)),
-        DOC => show::truth(doc_comment::is_doc_comment(last)),
-        _ => show::truth(valid::is_valid_identifier(last)),
+        DOC => show::truth(comment::doc::is_doc_comment(last)),
+        _ => show::truth(identifier::valid::is_valid_identifier(last)),
     }
 }
 
@@ -223,9 +223,9 @@ fn of_text(kind: usize, case: Case, before: &[u8], last: &[u8]) {
 fn of_book<'a>(kind: usize, first: &'a [u8], before: &'a [u8], last: &[u8]) {
     match kind {
         BOOK => show::number(book::check(last) as usize),
-        RESERVED => reserved(reserved::lookup(before, last)),
-        UNCHECKED => reserved(reserved::lookup_in(before, last)),
-        FIND => show::bytes(two_books::find(first, before, last)),
+        RESERVED => reserved(book_lookup::lookup(before, last)),
+        UNCHECKED => reserved(book_lookup::lookup_in(before, last)),
+        FIND => show::bytes(book_lookup::two_books::find(first, before, last)),
         _ => show::word(show::UNKNOWN),
     }
 }

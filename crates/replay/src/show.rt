@@ -1,10 +1,10 @@
 // How answers are written: each part with a space before it.
 use chars::cursor::Cursor;
-use coordinates::Placed;
 use fault::Fault;
 use lent::Written;
 use literal::Scanned;
 use literal::Terminator;
+use places::coordinates::Placed;
 use position::Position;
 use token::Lookup;
 

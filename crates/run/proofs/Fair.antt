@@ -15,7 +15,7 @@ use Rattle.reading.specs.Limits.{Fair}
 use Rattle.script.specs.Script.{scriptOf}
 use Rattle.script.specs.States.{begun}
 use Rattle.script.proofs.Fair.{script-fair}
-use Rattle.run_door.specs.Door.{refusesOf}
+use Rattle.door.specs.RunDoor.{refusesOf}
 use Rattle.run.specs.Run.{readingOf}
 
 -- what is refused at the door is 1, 2 or 14

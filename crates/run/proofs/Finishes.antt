@@ -21,11 +21,11 @@ use Rattle.script.specs.States.{state, movedTo, behindOf, Fine, Fits}
 use Rattle.script.specs.Counts.{passedOf}
 use Rattle.script.specs.Skips.{skipped}
 use Rattle.script.proofs.Skips.{skips, skipped-moved, skipped-behind, skipped-fits}
-use Rattle.run_turn.specs.Turns.{within, Went, went, turnOf, keptOf, bytesOf, ledBy, led, Leads}
-use Rattle.run_turn.specs.declared.Next.{Next}
-use Rattle.run_turn.specs.declared.Next.the-variants.{On, Listed, Over}
-use Rattle.run_turn.specs.declared.Turned.{Turned}
-use Rattle.run_turn.proofs.Makes.{Stands, Small, left, After, turn-after}
+use Rattle.turn.specs.Turns.{within, Went, went, turnOf, keptOf, bytesOf, ledBy, led, Leads}
+use Rattle.turn.specs.declared.Next.{Next}
+use Rattle.turn.specs.declared.Next.the-variants.{On, Listed, Over}
+use Rattle.turn.specs.declared.Turned.{Turned}
+use Rattle.turn.proofs.Makes.{Stands, Small, left, After, turn-after}
 
 -- how it ended, how many entries and literal bytes there are then, and what the memory holds
 pub record Finished : Type 0 where

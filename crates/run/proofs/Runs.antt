@@ -11,8 +11,8 @@ use Rattle.basis.specs.Store.{over}
 use Rattle.basis.proofs.Stores.{sets-front}
 use Rattle.position.specs.Place.{start, lineNumber, columnNumber}
 use Rattle.fault.specs.Faults.{fault}
-use Rattle.run_door.specs.Door.{refusesOf}
-use Rattle.run_door.proofs.Doors.{too-long}
+use Rattle.door.specs.RunDoor.{refusesOf}
+use Rattle.door.proofs.run.Doors.{too-long}
 use Rattle.reading.specs.Reading.{Left, ended}
 use Rattle.reading.specs.CutRun.{Bounds, cutRun}
 use Rattle.reading.specs.Entries.{numbersOf, laidOut}
@@ -23,7 +23,7 @@ use Rattle.reading.proofs.Fits.{cut-fits}
 use Rattle.reading.proofs.Layouts.{laid-length}
 use Rattle.script.specs.Script.{scriptOf}
 use Rattle.script.specs.States.{begun}
-use Rattle.run_turn.proofs.Makes.{Stands, left}
+use Rattle.turn.proofs.Makes.{Stands, left}
 use Rattle.run.specs.Run.{readingOf, runOf, ranOf, literalsOf, entriesOf}
 use Rattle.run.proofs.Finishes.{Finished, finish, Running}
 

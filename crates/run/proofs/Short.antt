@@ -13,13 +13,13 @@ use Rattle.script.specs.Script.{scriptOf}
 use Rattle.script.specs.Steps.{stepOf}
 use Rattle.script.specs.States.{begun}
 use Rattle.script.specs.declared.State.{State}
-use Rattle.run_turn.specs.Turns.{nextOf, stateOf, bytesOf}
-use Rattle.run_turn.specs.declared.Next.{Next}
-use Rattle.run_turn.specs.declared.Next.the-variants.{On, Listed, Over}
-use Rattle.run_turn.proofs.Cuts.{here}
-use Rattle.run_turn.proofs.Makes.{Stands, left, Makes, turn-makes}
-use Rattle.run_door.specs.Door.{refusesOf}
-use Rattle.run_door.proofs.Doors.{admitted}
+use Rattle.turn.specs.Turns.{nextOf, stateOf, bytesOf}
+use Rattle.turn.specs.declared.Next.{Next}
+use Rattle.turn.specs.declared.Next.the-variants.{On, Listed, Over}
+use Rattle.turn.proofs.Cuts.{here}
+use Rattle.turn.proofs.Makes.{Stands, left, Makes, turn-makes}
+use Rattle.door.specs.RunDoor.{refusesOf}
+use Rattle.door.proofs.run.Doors.{admitted}
 use Rattle.run.specs.Run.{runOf}
 use Rattle.run.proofs.Runs.{begun-stands, run-read, run-refused}
 

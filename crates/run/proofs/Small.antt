@@ -21,8 +21,8 @@ use Rattle.script.specs.Script.{scriptOf}
 use Rattle.script.specs.States.{begun}
 use Rattle.script.proofs.Fair.{script-fair}
 use Rattle.script.proofs.Small.{script-small}
-use Rattle.run_door.specs.Door.{refusesOf}
-use Rattle.run_door.proofs.Doors.{admitted}
+use Rattle.door.specs.RunDoor.{refusesOf}
+use Rattle.door.proofs.run.Doors.{admitted}
 use Rattle.run.specs.Run.{runOf}
 use Rattle.run.proofs.Runs.{run-read, run-refused}
 use Rattle.run.proofs.Fair.{Early, door-early}

@@ -7,7 +7,7 @@ use Rattle.basis.specs.Pick.{pick}
 use Rattle.basis.specs.Store.{over}
 use Rattle.position.specs.Place.{start}
 use Rattle.fault.specs.Faults.{fault}
-use Rattle.run_door.specs.Door.{refusesOf}
+use Rattle.door.specs.RunDoor.{refusesOf}
 use Rattle.reading.specs.Reading.{Reading, halts, Left}
 use Rattle.reading.specs.CutRun.{Bounds, cutRun}
 use Rattle.reading.specs.Entries.{laidOut}

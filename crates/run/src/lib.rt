@@ -1,4 +1,6 @@
 // The run over a script: document 01, "Run". It lists the tokens in their order, within a limit and what is lent.
+pub mod bytes;
+
 ghost use mathlib.Core.Path.{_≡_};
 ghost use mathlib.Core.Bool.{true};
 ghost use Prim.Native.Nat.{_+_, _*_, _≤_};
@@ -15,9 +17,9 @@ use fault::Part;
 use position::Position;
 use reading::Ending;
 use reading::Entry;
-use run_turn::Next;
 use script::Passed;
 use script::State;
+use turn::Next;
 
 // How a run ended, how many entries it listed, and how many literal bytes it used.
 pub struct Ran {
@@ -53,7 +55,7 @@ fn tokens(book: &[u8], script: &[u8], limit: usize, literals: &mut [u8], entries
     let mut used = 0;
     loop {
         let cursor = s.cursor;
-        let turned = run_turn::turn(
+        let turned = turn::turn(
             book,
             script,
             cursor,
@@ -107,7 +109,7 @@ pub fn run(
     ensures { λ r. ⌜ now (literals .exit) ≡ literalsOf (runOf (boundsOf 5 limit (length (now (literals .entry))) (length (now (entries .entry)))) (now (script .entry)) (now (book .entry))) (now (literals .entry)) ⌝ }
     ensures { λ r. ⌜ now (entries .exit) ≡ entriesOf numbersOf (runOf (boundsOf 5 limit (length (now (literals .entry))) (length (now (entries .entry)))) (now (script .entry)) (now (book .entry))) (now (entries .entry)) ⌝ }
 {
-    let number = run_door::refuses(script, book);
+    let number = door::run::refuses(script, book);
     if number == 0 {
         return tokens(book, script, limit, literals, entries);
     }

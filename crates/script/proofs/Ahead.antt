@@ -15,8 +15,8 @@ use Rattle.chars.specs.declared.cursor.Cursor.{Cursor}
 use Rattle.literal.specs.declared.End.{End}
 use Rattle.literal.specs.Trace.{Trace, bytes, final, Outcome, good, bad}
 use Rattle.literal.proofs.Lands.{Lands, Lands-from}
-use Rattle.raw_scan.proofs.Lands.{raw-lands}
-use Rattle.string_reading.proofs.Lands.{string-lands}
+use Rattle.raw.proofs.scan.Lands.{raw-lands}
+use Rattle.string.proofs.Lands.{string-lands}
 use Rattle.find.specs.Find as Find
 use Rattle.find.specs.Find.{findOf}
 use Rattle.find.specs.declared.Found.{Found}

@@ -16,26 +16,26 @@ use Rattle.chars.specs.Scan.{run, runAt, widths}
 use Rattle.fault.specs.Faults.{fault}
 use Rattle.token.specs.Keywords as Keywords
 use Rattle.keywords.specs.Lookup as Look
-use Rattle.order.specs.Order as Order
-use Rattle.contents.specs.Contents as Contents
+use Rattle.book.specs.Order as Order
+use Rattle.book.specs.Contents as Contents
 use Rattle.book.specs.Book as Book
-use Rattle.reserved.specs.Lookup as Reserved
-use Rattle.valid.specs.Valid as Valid
-use Rattle.stretch.specs.Stretch as Stretch
+use Rattle.book_lookup.specs.Lookup as Reserved
+use Rattle.identifier.specs.Valid as Valid
+use Rattle.chars.specs.Ends as Stretch
 use Rattle.identifier.specs.Identifiers as Identifiers
 use Rattle.symbols.specs.Symbols as Symbols
 use Rattle.comment.specs.Block as Block
 use Rattle.literal.specs.Trace.{yields, bytes, final, passes}
 use Rattle.literal.specs.Cut.{cut}
-use Rattle.escape.specs.Escapes as Escapes
-use Rattle.string_take.specs.Kinds.{isVerbatim, isContinued, isInterpolated}
-use Rattle.string_take.specs.Endings.{unterminatedAt, malformedAt}
-use Rattle.string_take.specs.Turns.{isEmpty, nextIs, endOf, dollarOf, takeOf}
-use Rattle.string_act.specs.Turns.{columnOf, closeOf, lineFeedOf, escapeOf, addOf, plainOf, otherOf, matchOf, actOf}
-use Rattle.string_reading.specs.Ends.{argumentAt, tooLongAt, fullAt, lastOf}
-use Rattle.string_reading.specs.Scans as String
-use Rattle.raw_open.specs.Opening as Open
-use Rattle.raw_scan.specs.Raw as Raw
+use Rattle.string_turn.specs.Escapes as Escapes
+use Rattle.string_turn.specs.Kinds.{isVerbatim, isContinued, isInterpolated}
+use Rattle.string_turn.specs.Endings.{unterminatedAt, malformedAt}
+use Rattle.string_turn.specs.Take.{isEmpty, nextIs, endOf, dollarOf, takeOf}
+use Rattle.string_turn.specs.Act.{columnOf, closeOf, lineFeedOf, escapeOf, addOf, plainOf, otherOf, matchOf, actOf}
+use Rattle.string.specs.Ends.{argumentAt, tooLongAt, fullAt, lastOf}
+use Rattle.string.specs.Reading as String
+use Rattle.raw.specs.Opening as Open
+use Rattle.raw.specs.Raw as Raw
 use Rattle.reading.specs.declared.Ending.{Ending}
 use Rattle.reading.specs.declared.Ending.the-variants.{End, Stop}
 use Rattle.reading.specs.declared.Entry.{Entry}

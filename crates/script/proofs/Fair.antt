@@ -19,9 +19,9 @@ use Rattle.literal.specs.declared.End.{End}
 use Rattle.literal.specs.Trace.{Trace, bytes, final, Outcome, good, bad}
 use Rattle.literal.specs.Limits.{Sevens}
 use Rattle.literal.proofs.Limits.{own-refusal}
-use Rattle.raw_scan.specs.Raw.{asSource}
-use Rattle.raw_scan.proofs.Limits.{read-sevens}
-use Rattle.string_reading.proofs.Limited.{reading-sevens}
+use Rattle.raw.specs.Raw.{asSource}
+use Rattle.raw.proofs.scan.Limits.{read-sevens}
+use Rattle.string.proofs.Limits.{reading-sevens}
 use Rattle.find.specs.Find as Find
 use Rattle.find.specs.Find.{findOf}
 use Rattle.find.specs.declared.Found.{Found}

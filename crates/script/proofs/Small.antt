@@ -14,9 +14,9 @@ use Rattle.chars.specs.declared.cursor.Cursor.{Cursor}
 use Rattle.literal.specs.declared.End.{End}
 use Rattle.literal.specs.Trace.{Trace, bytes, final, Outcome, good, bad}
 use Rattle.literal.proofs.Small.{Traced, Outcome-small, final-small}
-use Rattle.raw_scan.specs.Raw.{asSource}
-use Rattle.raw_scan.proofs.Small.{read-traced}
-use Rattle.string_reading.proofs.Small.{reading-traced}
+use Rattle.raw.specs.Raw.{asSource}
+use Rattle.raw.proofs.scan.Small.{read-traced}
+use Rattle.string.proofs.Small.{reading-traced}
 use Rattle.find.specs.Find as Find
 use Rattle.find.specs.Find.{findOf}
 use Rattle.find.specs.declared.Found.{Found}

@@ -14,9 +14,9 @@ use Rattle.fault.specs.declared.Fault.{Fault}
 use Rattle.fault.specs.Faults.{part, stillOpen}
 use Rattle.literal.specs.declared.End.{End}
 use Rattle.literal.specs.Trace.{Trace, bytes, final, Outcome, good, bad}
-use Rattle.raw_scan.specs.Raw.{readOf, asSource}
-use Rattle.string_take.specs.Kinds.{quote, apostrophe, backtick}
-use Rattle.string_reading.specs.Scans.{readingOf}
+use Rattle.raw.specs.Raw.{readOf, asSource}
+use Rattle.string_turn.specs.Kinds.{quote, apostrophe, backtick}
+use Rattle.string.specs.Reading.{readingOf}
 use Rattle.find.specs.Find as Find
 use Rattle.find.specs.Find.{findOf}
 use Rattle.find.specs.declared.Found.{Found}

@@ -7,8 +7,8 @@ use borrow.Author.Tests.{eq-eqb, ne-eqb}
 use Rattle.position.specs.declared.Position.{Position}
 use Rattle.position.specs.Place.{onLine, beginsLine}
 use Rattle.door.specs.Door.{doorOf}
-use Rattle.string_take.specs.Kinds.{quote, apostrophe, backtick}
-use Rattle.string.specs.Scans.{startOf, argumentOf}
+use Rattle.string_turn.specs.Kinds.{quote, apostrophe, backtick}
+use Rattle.string.specs.Entry.{startOf, argumentOf}
 
 module _ (p : Position) (q : ℕ) {a : Bool} (e : a ≡ onLine p) where
   pub no-line : a ≡ false → _≡_ {A = ℕ} 3 (startOf p q)

@@ -17,9 +17,9 @@ use Rattle.literal.specs.declared.Scanned.{Scanned}
 use Rattle.literal.specs.declared.Scanned.the-variants.{Accepted, Refused}
 use Rattle.literal.proofs.Turns.{cut-fails}
 use Rattle.literal.proofs.Limits.{accepted-whole}
-use Rattle.string_reading.specs.Ends.{argumentAt, fullAt}
-use Rattle.string_reading.specs.Scans.{readingOf}
-use Rattle.string.specs.Scans.{argumentOf, traceOf, scanOf}
+use Rattle.string.specs.Ends.{argumentAt, fullAt}
+use Rattle.string.specs.Reading.{readingOf}
+use Rattle.string.specs.Entry.{argumentOf, traceOf, scanOf}
 
 -- a refused scan leaves the memory
 pub leaves : (x : Trace) (memory : List ℕ) {r : Scanned} {f : Refusal} → r ≡ Refused f → memory ≡ wrote r x memory

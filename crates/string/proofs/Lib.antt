@@ -1,4 +1,13 @@
+pub mod Readings
+pub mod Passing
+pub mod Limits
+pub mod Lands
+pub mod Bodies
+pub mod Escaping
+pub mod Doubling
+pub mod Texts
+pub mod Small
 pub mod Returns
-pub mod Limited
+pub mod EntryLimits
 pub mod Arguments
 pub mod Entering

@@ -21,14 +21,14 @@ use Rattle.literal.specs.Cut.{cut}
 use Rattle.literal.specs.declared.Terminator.{Terminator}
 use Rattle.literal.specs.declared.Scanned.{Scanned}
 use Rattle.literal.specs.declared.Scanned.the-variants.{Accepted, Refused}
-use Rattle.escape.specs.Escapes.{letterOf, digitsAfter, digitsFrom, numberOf, escapedOf}
-use Rattle.string_take.specs.Kinds.{lf, cr, quote, apostrophe, backtick, dollar, isVerbatim, isContinued, isInterpolated}
-use Rattle.string_take.specs.Endings.{once, clear, ending, refusal, unterminatedAt, malformedAt}
-use Rattle.string_take.specs.Turns.{isEmpty, nextIs, endOf, dollarOf, takeOf}
-use Rattle.string_act.specs.Turns.{columnOf, closeOf, lineFeedOf, escapeOf, addOf, plainOf, otherOf, matchOf, actOf}
-use Rattle.string_reading.specs.Ends.{argumentAt, tooLongAt, fullAt, lastOf}
-use Rattle.string_reading.specs.Scans.{turnOf, rule, begun, readingOf}
-use Rattle.string.specs.Scans.{startOf, argumentOf, traceOf, scanOf}
+use Rattle.string_turn.specs.Escapes.{letterOf, digitsAfter, digitsFrom, numberOf, escapedOf}
+use Rattle.string_turn.specs.Kinds.{lf, cr, quote, apostrophe, backtick, dollar, isVerbatim, isContinued, isInterpolated}
+use Rattle.string_turn.specs.Endings.{once, clear, ending, refusal, unterminatedAt, malformedAt}
+use Rattle.string_turn.specs.Take.{isEmpty, nextIs, endOf, dollarOf, takeOf}
+use Rattle.string_turn.specs.Act.{columnOf, closeOf, lineFeedOf, escapeOf, addOf, plainOf, otherOf, matchOf, actOf}
+use Rattle.string.specs.Ends.{argumentAt, tooLongAt, fullAt, lastOf}
+use Rattle.string.specs.Reading.{turnOf, rule, begun, readingOf}
+use Rattle.string.specs.Entry.{startOf, argumentOf, traceOf, scanOf}
 
 -- the answer to a text from offset 0, with room for a hundred bytes
 abbrev scan : ℕ → Position → ℕ → List ℕ → Scanned

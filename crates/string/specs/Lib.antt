@@ -1,1 +1,7 @@
-pub mod Scans
+pub mod Ends
+pub mod Reading
+pub mod Limited
+pub mod Kept
+pub mod Units
+pub mod Standing
+pub mod Entry

@@ -1,10 +1,12 @@
 // String literals: the entry of the Rust's `parse_string_literal` for its three terminators, `"`, `'` and backtick, which asks its
 // arguments first.
+pub mod scan;
+
 ghost use mathlib.Core.Path.{_≡_};
 ghost use lib.ListN.{length};
 ghost use Rattle.literal.specs.Cut.{wrote};
-ghost use Rattle.string_reading.specs.Ends.{argumentAt};
-ghost use Rattle.string.specs.Scans.{startOf, argumentOf, traceOf, scanOf};
+ghost use Rattle.string.specs.Ends.{argumentAt};
+ghost use Rattle.string.specs.Entry.{startOf, argumentOf, traceOf, scanOf};
 use chars::cursor::Cursor;
 use fault::Fault;
 use fault::Part;
@@ -87,11 +89,11 @@ pub fn parse_string_literal(
     if number == 0 {
         let room = out.len();
         let mut aside: [u8; 1] = [0; 1];
-        let scanned = string_scan::scan(text, from, terminator, limit, room, &mut aside);
+        let scanned = scan::scan(text, from, terminator, limit, room, &mut aside);
         let Scanned::Accepted(_, _) = scanned else {
             return scanned;
         };
-        string_scan::scan(text, from, terminator, limit, room, out);
+        scan::scan(text, from, terminator, limit, room, out);
         return scanned;
     }
     Scanned::Refused(refused(number, from))

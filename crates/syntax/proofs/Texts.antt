@@ -16,8 +16,8 @@ use Rattle.basis.proofs.Bounds.{split}
 use Rattle.basis.proofs.Bytes.{past}
 use Rattle.basis.proofs.Cases.{true-left, true-right}
 use Rattle.token.specs.Keywords.{keywords, textIn}
-use Rattle.word_table.specs.Spelt.{numberFrom, numberOf, speltOf}
-use Rattle.word_table.proofs.Numbers.{Bytes, bytes, bytes-are, number-same, bound, bound-down, bound-some, positive}
+use Rattle.token.specs.Spelt.{numberFrom, numberOf, speltOf}
+use Rattle.token.proofs.word_table.Numbers.{Bytes, bytes, bytes-are, number-same, bound, bound-down, bound-some, positive}
 use Rattle.syntax.specs.Syntax.{writtenAs, literalSyntaxOf}
 
 -- ---- the test: a token has no text, or one of bytes that does not begin with 0

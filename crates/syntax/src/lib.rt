@@ -17,7 +17,7 @@ struct Text {
 fn text_of(token: u8) -> Text
     ensures { λ r. ⌜ (r .at ≤ 8) × (length (r .bytes) ≡ 8) × (drop (r .at) (r .bytes) ≡ textIn keywords token) ⌝ }
 {
-    let mut v = word_table::spelt(token);
+    let mut v = token::word_table::spelt(token);
     let mut bytes = [0u8; 8];
     let mut at = 8;
     while 0 < v {

@@ -3,8 +3,8 @@ use Prim.Native.Nat.{ℕ}
 use mathlib.Core.Path.{_≡_}
 use borrow.Author.Tests.{eq-eqb, ne-eqb}
 use Rattle.position.specs.declared.Position.{Position}
-use Rattle.coordinates.specs.declared.Placed.{Placed}
-use Rattle.moves.specs.Moves.{advanceOf}
+use Rattle.places.specs.declared.coordinates.Placed.{Placed}
+use Rattle.places.specs.Moves.{advanceOf}
 use Rattle.token.specs.Tokens.{Comment, EOF}
 use Rattle.token_ends.specs.Ends.{ends, onPlaced, recordTokenOf}
 use Rattle.token_ends.specs.declared.TokenEnds.{TokenEnds}

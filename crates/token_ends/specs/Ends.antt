@@ -3,9 +3,9 @@ use Prim.Native.Nat.{ℕ}
 use lib.Dec.{eqb}
 use Rattle.basis.specs.Pick.{pick, either}
 use Rattle.position.specs.declared.Position.{Position}
-use Rattle.coordinates.specs.declared.Placed.{Placed}
-use Rattle.coordinates.specs.declared.Placed.the-variants as placed
-use Rattle.moves.specs.Moves.{advanceOf}
+use Rattle.places.specs.declared.coordinates.Placed.{Placed}
+use Rattle.places.specs.declared.coordinates.Placed.the-variants as placed
+use Rattle.places.specs.Moves.{advanceOf}
 use Rattle.token.specs.Tokens.{Comment, EOF}
 use Rattle.token_ends.specs.declared.TokenEnds.{TokenEnds}
 use Rattle.token_ends.specs.declared.Recorded.{Recorded}

@@ -1,7 +1,7 @@
 // Where the last tokens ended: the Rust's `record_token`, by value.
 ghost use mathlib.Core.Path.{_≡_};
 ghost use Rattle.token_ends.specs.Ends.{recordTokenOf};
-use coordinates::Placed;
+use places::coordinates::Placed;
 use position::Position;
 use token::tokens;
 
@@ -32,7 +32,7 @@ pub fn record_token(ends: TokenEnds, token: u8, pos: Position) -> Recorded
     if token == tokens::EOF {
         return Recorded::Ends(same);
     }
-    match moves::advance(pos) {
+    match places::moves::advance(pos) {
         Placed::At(last) => Recorded::Ends(TokenEnds { last, previous }),
         Placed::Refused(number) => Recorded::Refused(number),
     }

@@ -3,3 +3,4 @@ pub mod Encode
 pub mod Bits
 pub mod Widths
 pub mod Unicode
+pub mod Blocks

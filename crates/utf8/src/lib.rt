@@ -1,4 +1,7 @@
 // UTF-8: the character at an offset of a text lent as bytes, and which numbers are characters. With `formed` and `encoder`, the leaf that alone knows about bytes.
+pub mod encoder;
+pub mod formed;
+
 ghost use mathlib.Core.Bool.{true};
 ghost use mathlib.Core.Path.{_≡_};
 ghost use mathlib.Core.List.{_∷_};

@@ -5,8 +5,8 @@ use mathlib.Core.List.{List}
 use mathlib.Core.Path.{_≡_}
 use lib.ListN.{length}
 use borrow.Author.Needs.{needs}
-use Rattle.contents.specs.Contents.{count, bodies, enough}
-use Rattle.contents.proofs.Parts.{is-short, is-count, is-enough, has-rows}
+use Rattle.book.specs.Contents.{count, bodies, enough}
+use Rattle.book.proofs.contents.Parts.{is-short, is-count, is-enough, has-rows}
 use Rattle.book.proofs.Checks.{not-enough, too-many, not-running, not-all-fit, not-rising, all-right}
 use Rattle.book.proofs.check.Statement.{statement}
 use Rattle.book.proofs.check.Tie as tie

@@ -1,6 +1,6 @@
 -- One test for each condition. Assumes nothing.
 use borrow.Author.Needs.{needs}
-use Rattle.contents.proofs.Parts.{row-size, row-flags}
+use Rattle.book.proofs.contents.Parts.{row-size, row-flags}
 use Rattle.book.proofs.Fits.{too-short, too-long, other-flags, plain-word}
 use Rattle.book.proofs.is_fit.Statement.{statement}
 use Rattle.book.proofs.is_fit.Tie as tie

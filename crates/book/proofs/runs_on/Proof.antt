@@ -1,7 +1,7 @@
 -- The loop passes the words that start where the one before ends. Assumes nothing.
 use Prim.Native.Nat.{_-_}
 use borrow.Author.Needs.{needs}
-use Rattle.contents.proofs.Parts.{row-start, row-size}
+use Rattle.book.proofs.contents.Parts.{row-start, row-size}
 use Rattle.book.proofs.Words.{Running, running-start, gap, running-next, running-end}
 use Rattle.book.proofs.runs_on.Statement.{statement}
 use Rattle.book.proofs.runs_on.Tie as tie

@@ -5,8 +5,8 @@ use mathlib.Core.List.{List}
 use mathlib.Core.Path.{_≡_}
 use lib.ListN.{length}
 use borrow.Author.Needs.{needs}
-use Rattle.word_table.specs.Spelt.{numberOf}
-use Rattle.word_table.proofs.Numbers.{Bytes}
+use Rattle.token.specs.Spelt.{numberOf}
+use Rattle.token.proofs.word_table.Numbers.{Bytes}
 use Rattle.keywords.proofs.Sought.{Sought, empty-none, long-none, length-none, sought-first, sought-end, sought-next, found, left, goes-on}
 use Rattle.keywords.proofs.lookup_symbol_from_syntax.Statement.{statement}
 use Rattle.keywords.proofs.lookup_symbol_from_syntax.Tie as tie

@@ -2,7 +2,7 @@
 use Prim.Native.Nat.{_-_}
 use native.Mathlib.Omega.{arith}
 use lib.ListN.{length, getD}
-use Rattle.word_table.proofs.Numbers.{Read, read-none, read-all, read-fits, read-more}
+use Rattle.token.proofs.word_table.Numbers.{Read, read-none, read-all, read-fits, read-more}
 use Rattle.keywords.proofs.number_of.Statement.{statement}
 use Rattle.keywords.proofs.number_of.Tie as tie
 

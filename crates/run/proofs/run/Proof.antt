@@ -4,7 +4,7 @@ use borrow.Author.Needs.{needs}
 use Rattle.position.specs.Place as Place
 use Rattle.reading.specs.Reading.{Left}
 use Rattle.reading.specs.Entries.{numbersOf}
-use Rattle.run_door.proofs.Doors.{admitted}
+use Rattle.door.proofs.run.Doors.{admitted}
 use Rattle.run.specs.Run.{ranOf, literalsOf, entriesOf}
 use Rattle.run.proofs.Runs.{run-read, refused-answer, refused-literals, refused-entries}
 use Rattle.run.proofs.run.Statement.{statement}

@@ -1,7 +1,7 @@
 -- The arguments refused, the scan refused, or the body written by the same scan once more: laws of proofs/Entering.antt.
 use mathlib.Core.Path.{sym, _∙_}
 use borrow.Author.Needs.{needs}
-use Rattle.string_scan.proofs.Keeps.{accepted-kept}
+use Rattle.string.proofs.scan.Keeps.{accepted-kept}
 use Rattle.string.proofs.Entering.{leaves, leaves-refused, argument-refused, scans, has-room, writes}
 use Rattle.string.proofs.parse_string_literal.Statement.{statement}
 use Rattle.string.proofs.parse_string_literal.Tie as tie

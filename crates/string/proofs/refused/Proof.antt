@@ -1,6 +1,6 @@
 -- The refusal is the one that the definition names.
 use mathlib.Core.Path.{refl}
-use Rattle.string_reading.specs.Ends.{argumentAt}
+use Rattle.string.specs.Ends.{argumentAt}
 use Rattle.string.proofs.refused.Statement.{statement}
 use Rattle.string.proofs.refused.Tie as tie
 

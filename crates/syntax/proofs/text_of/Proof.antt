@@ -2,7 +2,7 @@
 use native.Mathlib.Omega.{arith}
 use mathlib.Core.Path.{refl}
 use borrow.Author.Needs.{needs}
-use Rattle.word_table.specs.Spelt.{speltOf}
+use Rattle.token.specs.Spelt.{speltOf}
 use Rattle.syntax.proofs.Texts.{Spelling, spelling-none, spelling-room, spelling-more, spelling-all}
 use Rattle.syntax.proofs.text_of.Statement.{statement}
 use Rattle.syntax.proofs.text_of.Tie as tie

@@ -1,0 +1,20 @@
+-- The row that the export writes, from what its calls tell. Assumes nothing.
+use Prim.Native.Nat.{ℕ}
+use mathlib.Core.List.{List}
+use mathlib.Core.Path.{_≡_, refl}
+use lib.ListN.{length}
+use Rattle.position.specs.Place.{given}
+use Rattle.position.specs.declared.Position.{Position}
+use Rattle.chars.specs.Cursors.{cursor}
+use Rattle.comment.specs.Block.{told, scanBlockCommentOf}
+use Rattle.comment.specs.declared.scan.Commented.{Commented}
+use Rattle.c_names.specs.CommentRow.{listed, rowOf}
+
+module _ (t : List ℕ) (at l c level : ℕ) where
+  pub row-long : length (rowOf t at l c level) ≡ 4
+  unfolding rowOf
+  row-long = refl
+
+  pub row-is : {p : Position} {s : Commented} {r : List ℕ} → p ≡ given l c → s ≡ scanBlockCommentOf t at p level → r ≡ listed (told level (cursor at p) s) → r ≡ rowOf t at l c level
+  unfolding rowOf
+  row-is e f g = rw (g, f, e)

@@ -1,0 +1,11 @@
+pub mod Packed
+pub mod Short
+pub mod PlaceNumbers
+pub mod Rows
+pub mod Forms
+pub mod OperatorRow
+pub mod IdentifierRow
+pub mod CommentRow
+pub mod LiteralRow
+pub mod RawScans
+pub mod StringScans

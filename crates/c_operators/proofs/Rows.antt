@@ -1,9 +1,0 @@
--- The row has nine numbers. Assumes nothing.
-use Prim.Native.Nat.{ℕ}
-use mathlib.Core.Path.{_≡_, refl}
-use lib.ListN.{length}
-use Rattle.c_operators.specs.Row.{rowOf}
-
-pub row-long : (t : ℕ) → length (rowOf t) ≡ 9
-unfolding rowOf
-row-long t = refl

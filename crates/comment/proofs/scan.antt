@@ -1,0 +1,4 @@
+pub mod Ends
+pub mod Returns
+pub mod Turns
+pub mod Small

@@ -1,2 +1,0 @@
-pub mod Coordinates
-pub mod Told

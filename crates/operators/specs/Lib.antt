@@ -1,0 +1,3 @@
+pub mod Precedence
+pub mod Assignments
+pub mod Kinds

@@ -1,0 +1,4 @@
+pub mod Coordinates
+pub mod Told
+pub mod Moves
+pub mod Sum

@@ -1,0 +1,125 @@
+-- Characters of a body that are passed at once outside an attempt to close: plain ones, a line feed, a quote that closes nothing. Assumes nothing.
+use Prim.Native.Nat.{ℕ, _+_, _-_, _≤_, _<_}
+use native.Mathlib.Omega.{arith}
+use mathlib.Core.Bool.{false}
+use mathlib.Core.List.{List, [], _∷_}
+use mathlib.Core.Path.{_≡_, refl, ap, _∙_}
+use Rattle.position.specs.declared.Position.{Position}
+use Rattle.position.specs.Place.{orElse, advanced, advancedBy, lined}
+use Rattle.position.proofs.Moves.{firstBy, advanced-by-none, advanced-by-more, first-by-none, first-by-more, first-by-some, first-stays, two-columns}
+use Rattle.utf8.specs.Table.{lookAt}
+use Rattle.utf8.specs.Encode.{encode}
+use Rattle.utf8.specs.declared.Look.the-variants.{Char}
+use Rattle.utf8.proofs.Laws.{at-width}
+use Rattle.utf8.proofs.Unicode.{size-width}
+use Rattle.chars.specs.Cursors.{cursor}
+use Rattle.chars.specs.Scan.{runAt}
+use Rattle.chars.specs.Stretch.{Stretch, Other}
+use Rattle.chars.proofs.Cursors.{ate}
+use Rattle.chars.proofs.Stretches as stretches
+use Rattle.chars.proofs.Stretches.{is-other, stretched, stretch-low}
+use Rattle.literal.specs.Trace.{Trace, added, tested, yields, passes}
+use Rattle.literal.specs.Cut.{cut}
+use Rattle.literal.specs.declared.Refusal.{Refusal}
+use Rattle.literal.specs.declared.Scanned.{Scanned}
+use Rattle.literal.proofs.Limits.{fewer}
+use Rattle.literal.proofs.Within.{adds-within}
+use Rattle.raw.specs.Raw.{asSource, Body, body, heldBack, tooLong, placed, turn, rule}
+use Rattle.raw.specs.Step.{Adds, Failing, Passes}
+use Rattle.raw.specs.declared.scan.Stand.{Stand}
+use Rattle.raw.proofs.scan.Turns.{quote-adds, line-adds, failed-adds}
+use Rattle.raw.proofs.scan.Loops.{goes-on}
+
+-- neither a quote nor a line feed
+abbrev pub Plain : ℕ → Type 0
+Plain c = Other 0x22 0x0A 0x0A 0x0A 0x0A c
+
+-- nothing is passed; one thing behind the other
+pub passes-none : (t : List ℕ) (limit room held : ℕ) (s : Stand) → s .n ≤ room → Passes t limit room held s s
+passes-none t limit room held s h = record { low = omega arith; counts = omega arith; fits = h; same = λ start k full. refl }
+
+pub passes-then : {t : List ℕ} {limit room held : ℕ} {s r u : Stand} → Passes t limit room held s r → Passes t limit room held r u → Passes t limit room held s u
+passes-then p q =
+    record { low = omega (arith, p .low, q .low); counts = omega (arith, p .low, q .low, p .counts, q .counts); fits = q .fits; same = λ start k full. p .same start k full ∙ q .same start k full }
+
+module _ (t : List ℕ) (limit room most : ℕ) (s : Stand) (g : s .n + most ≤ room) (o : 0 < most → passes limit (s .n + most) ≡ false) where
+  abbrev from : ℕ
+  from = s .here .at
+
+  -- behind so many characters
+  abbrev after : ℕ → Body
+  after i = body 0 (advancedBy i (s .here .place)) (firstBy i (s .first) (s .here .place))
+
+  module _ (start : Position) (k : ℕ) (full : Refusal) where
+    abbrev view : ℕ → Trace → Scanned
+    view b r = cut full limit room (s .n + (b - from)) r
+
+    one-passed : (i b c w : ℕ) → from ≤ b → b + w ≤ from + most → lookAt t b ≡ Char c w → Plain c → stretches.Plain (rule asSource start k) t after view i b w
+    unfolding turn heldBack placed yields
+    one-passed i b c w l h e y =
+        let n = is-other 0x22 0x0A 0x0A 0x0A 0x0A c y in
+        let z : b + w - from ≡ b - from + w = omega arith in
+        let p = advanced (advancedBy i (s .here .place)) in
+        stretches.plain-turn (rule asSource start k) t after view {n = added (encode c) ∷ tested (tooLong start k (cursor (b + w) p)) ∷ []} e
+        (rw (n .0, n .1, advanced-by-more i (s .here .place), ← first-by-more (s .first) (s .here .place) i))
+        (λ r. rw z (adds-within full limit room (s .n) most g o (b - from) w (at-width t b e .0) (omega arith) (encode c) (size-width t b e) _ r))
+
+    all-passed : {i b : ℕ} → Stretch t Plain from i b → b ≤ from + most
+        → cut full limit room (s .n) (runAt (rule asSource start k) t from (body 0 (s .here .place) (s .first)))
+        ≡ cut full limit room (s .n + (b - from)) (runAt (rule asSource start k) t b (after i))
+    all-passed {i} {b} p l =
+        let z : s .n ≡ s .n + (from - from) = omega arith in
+        ap (λ (m : ℕ). cut full limit room m (runAt (rule asSource start k) t from (body 0 (s .here .place) (s .first)))) z
+        ∙ ap (λ (x : Body). view from (runAt (rule asSource start k) t from x)) (rw (advanced-by-none (s .here .place), first-by-none (s .first) (s .here .place)))
+        ∙ stretched (rule asSource start k) t after view Plain from (from + most) one-passed p l
+
+  pub passes-some : {i b m : ℕ} {p q : Position} → Stretch t Plain from i b → b ≤ from + most → (i ≡ 0 → ⊥)
+      → p ≡ advancedBy i (s .here .place) → q ≡ orElse (s .first) (advanced (s .here .place)) → m ≡ s .n + (b - from)
+      → Passes t limit room 0 s (record { here = cursor b p; first = q; n = m })
+  passes-some {i} {b} x l some e f c =
+      let h = stretch-low x in
+      record {
+        low = omega (arith, h);
+        counts = c;
+        fits = omega (arith, h, l, g, c);
+        same = λ start k full. rw (e, f, c, ← first-by-some (s .first) (s .here .place) i some) (all-passed start k full x l);
+      }
+
+  -- a turn in the state where it stands, behind so many bytes
+  abbrev before : Body
+  before = body 0 (s .here .place) (s .first)
+
+  abbrev within : (m : ℕ) → m ≤ s .n + most → 0 < most → passes limit m ≡ false
+  within m l some = fewer limit m (s .n + most) l (o some)
+
+  -- a line feed
+  pub passes-line : lookAt t from ≡ Char 0x0A 1 → 0 < most → {m : ℕ} {p q : Position} → p ≡ lined (advanced (s .here .place)) → q ≡ orElse (s .first) p → m ≡ s .n + 1
+      → Passes t limit room 0 s (record { here = cursor (from + 1) p; first = q; n = m })
+  passes-line e some {m} x y z =
+      record {
+        low = omega arith;
+        counts = omega (arith, z);
+        fits = omega (arith, z, g, some);
+        same = λ start k full. rw (y, x) (goes-on asSource start t k from before full limit room (s .n)
+            (line-adds asSource t k from before (ate t (s .here) e) (λ q. omega (arith, q)) (omega arith) (omega arith) refl) (omega (arith, g)) z (omega (arith, z, g, some)) (within m (omega (arith, z, some)) some));
+      }
+
+  -- a quote, and a character of w bytes that ends the attempt
+  module _ (one : lookAt t from ≡ Char 0x22 1) {c w : ℕ} (two : lookAt t (from + 1) ≡ Char c w) (f : Failing c) (l : w < most) where
+    abbrev attempt : Body
+    attempt = body 1 (advanced (s .here .place)) (orElse (s .first) (advanced (s .here .place)))
+
+    pub passes-quote : {m : ℕ} {p q : Position} → p ≡ advancedBy 2 (s .here .place) → q ≡ orElse (s .first) (advanced (s .here .place)) → m ≡ s .n + 1 + w
+        → Passes t limit room 0 s (record { here = cursor (from + 1 + w) p; first = q; n = m })
+    passes-quote {m} x y z =
+        record {
+          low = omega arith;
+          counts = omega (arith, z);
+          fits = omega (arith, z, g, l);
+          same = λ start k full.
+              let kept : Adds asSource t k (from + 1) attempt (1 + w) (from + 1 + w) (body 0 (advanced (advanced (s .here .place))) (orElse (attempt .first) (advanced (advanced (s .here .place))))) =
+              failed-adds t k (from + 1) attempt (ate t (cursor (from + 1) (advanced (s .here .place))) two) (f .0) (omega arith) (f .1) (omega arith) in
+              rw (y, x, two-columns (s .here .place), ← first-stays (s .first) (s .here .place) (advanced (advanced (s .here .place))))
+              (goes-on asSource start t k from before full limit room (s .n) (quote-adds asSource t k from before (ate t (s .here) one) refl) (omega (arith, g)) (omega arith) (omega (arith, g)) (within (s .n) (omega arith) (omega (arith, l)))
+              ∙ goes-on asSource start t k (from + 1) attempt full limit room (s .n) kept (omega (arith, g)) (omega (arith, z)) (omega (arith, z, g, l)) (within m (omega (arith, z, l)) (omega (arith, l))));
+        }

@@ -1,0 +1,118 @@
+-- A whole escape is two turns: one takes the backslash and adds nothing, the other adds what the escape stands for. So is a backslash at the end of a line, which adds nothing. Assumes nothing.
+use Prim.Native.Nat.{ℕ, _+_, _-_, _≤_}
+use native.Mathlib.Omega.{arith}
+use mathlib.Core.Bool.{Bool}
+use mathlib.Core.List.{List}
+use mathlib.Core.Path.{_≡_, refl, _∙_}
+use lib.Dec.{eqb}
+use borrow.Author.Tests.{eq-eqb, ne-eqb}
+use Rattle.basis.proofs.Cases.{both-no}
+use Rattle.position.specs.declared.Position.{Position}
+use Rattle.position.specs.Place.{orElse, advanced, advancedBy, lined}
+use Rattle.position.proofs.Moves.{advanced-by-none, advanced-by-more, advanced-by-first, first-stays}
+use Rattle.utf8.specs.Table.{lookAt}
+use Rattle.utf8.specs.declared.Look.the-variants.{Char}
+use Rattle.chars.specs.Cursors.{cursor}
+use Rattle.chars.proofs.Cursors.{ate}
+use Rattle.string_turn.specs.Escapes.{nothing, escapedOf}
+use Rattle.string_turn.specs.Whole.{Whole-at, none, stands, itself}
+use Rattle.string_turn.specs.declared.escape.Whole.{Whole}
+use Rattle.string_turn.specs.declared.escape.Escaped.the-variants as escaped
+use Rattle.string_turn.specs.Kinds.{lf, cr, quote, backslash, isVerbatim, isContinued}
+use Rattle.string_turn.specs.Take.{state, isEmpty, takeOf}
+use Rattle.string_turn.specs.declared.take.Pending.the-variants.{Empty, Backslash}
+use Rattle.string_turn.specs.declared.take.State.{State}
+use Rattle.string_turn.specs.declared.take.Got.the-variants as got
+use Rattle.string_turn.specs.Act.{columnOf, closeOf, lineFeedOf, escapeOf, plainOf, otherOf, matchOf, actOf}
+use Rattle.string_turn.specs.declared.act.Step.{Step}
+use Rattle.string_turn.specs.declared.act.Step.the-variants as step
+use Rattle.string.specs.Reading.{Escaping}
+use Rattle.string.proofs.Readings.{Twice, twice-on}
+
+module _ (white : ℕ → Bool) (t : List ℕ) (q : ℕ) (start : Position) (i : Escaping q) (p f : Position) (k b : ℕ) where
+  -- before the backslash, and behind it
+  abbrev before : State
+  before = state p f Empty k
+
+  abbrev pending : State
+  pending = state (advanced p) (orElse f (advanced p)) (Backslash (b + 1 - 1)) k
+
+  -- two columns before n are two behind them
+  columns-behind : (n : ℕ) → advancedBy n (advanced (advanced p)) ≡ advancedBy (n + 2) p
+  columns-behind n =
+      let z : n + 2 ≡ n + 1 + 1 = omega arith in
+      rw (z, advanced-by-more (n + 1) p, advanced-by-more n p, advanced-by-first n (advanced p), advanced-by-first n p)
+
+  module _ (e : lookAt t b ≡ Char backslash 1) where
+    took : takeOf t q start b before ≡ got.Char backslash (cursor (b + 1) (advanced p))
+    unfolding takeOf
+    took = rw (ate t (cursor b p) e, i .whole)
+
+    acted : actOf white t q start backslash (cursor (b + 1) (advanced p)) before ≡ step.Go nothing (b + 1) pending
+    unfolding actOf closeOf matchOf otherOf plainOf
+    acted = rw (i .other, i .plain)
+
+    module _ {c : ℕ} (g : lookAt t (b + 1) ≡ Char c 1) (l : 0x20 ≤ c) where
+      abbrev behind : Position
+      behind = advanced (advanced p)
+
+      took-next : takeOf t q start (b + 1) pending ≡ got.Char c (cursor (b + 1 + 1) behind)
+      unfolding takeOf
+      took-next = rw (ate t (cursor (b + 1) (advanced p)) g, i .whole)
+
+      acts : actOf white t q start c (cursor (b + 1 + 1) behind) pending ≡ escapeOf t q c (b + 1 - 1) (b + 1 + 1) (state behind (orElse (orElse f (advanced p)) behind) (Backslash (b + 1 - 1)) k)
+      unfolding actOf closeOf matchOf otherOf isEmpty
+      acts = rw (both-no (eqb c q), ne-eqb c cr (λ z. omega arith), ne-eqb c lf (λ z. omega arith))
+
+      abbrev first : Position
+      first = orElse f (advanced p)
+
+      -- behind the whole, where it stands for d
+      module _ {d at′ : ℕ} {p′ : Position} (x : escapeOf t q c (b + 1 - 1) (b + 1 + 1) (state behind first (Backslash (b + 1 - 1)) k) ≡ step.Go d at′ (state p′ first Empty k)) where
+        acted-next : actOf white t q start c (cursor (b + 1 + 1) behind) pending ≡ step.Go d at′ (state p′ first Empty k)
+        acted-next = acts ∙ rw (first-stays f p behind) x
+
+        twice : Twice white t q start b before d at′ (state p′ first Empty k)
+        twice = twice-on white t q start b before took acted took-next acted-next
+
+    -- a line feed behind it, in an ordinary literal: it goes on in the next line
+    module _ (h : q ≡ quote) (g : lookAt t (b + 1) ≡ Char lf 1) where
+      abbrev below : State
+      below = state (lined (advanced (advanced p))) (orElse f (advanced p)) Empty (columnOf start + 1)
+
+      took-feed : takeOf t q start (b + 1) pending ≡ got.Char lf (cursor (b + 1 + 1) (advanced (advanced p)))
+      unfolding takeOf
+      took-feed = rw (ate t (cursor (b + 1) (advanced p)) g, i .whole)
+
+      acted-feed : actOf white t q start lf (cursor (b + 1 + 1) (advanced (advanced p))) pending ≡ step.Go nothing (b + 1 + 1) below
+      unfolding actOf closeOf matchOf lineFeedOf isEmpty isVerbatim isContinued
+      acted-feed = rw (h, first-stays f p (advanced (advanced p)))
+
+      pub continues-twice : Twice white t q start b before nothing (b + 1 + 1) below
+      continues-twice = twice-on white t q start b before took acted took-feed acted-feed
+
+  -- an escape that all literals have, and the escaped terminator
+  abbrev escapes : ℕ → Step
+  escapes c = escapeOf t q c (b + 1 - 1) (b + 1 + 1) (state (advanced (advanced p)) (orElse f (advanced p)) (Backslash (b + 1 - 1)) k)
+
+  abbrev whole-on : ℕ → State
+  whole-on w = state (advancedBy w p) (orElse f (advanced p)) Empty k
+
+  escape-stands : (c d n : ℕ) → ((p : Position) → escapedOf t c (cursor (b + 2) p) ≡ escaped.Char d (cursor (b + 2 + n) (advancedBy n p))) → escapes c ≡ step.Go d (b + (n + 2)) (whole-on (n + 2))
+  unfolding escapeOf
+  escape-stands c d n x =
+      let y : b + 1 + 1 ≡ b + 2 = omega arith in
+      let z : b + 2 + n ≡ b + (n + 2) = omega arith in
+      rw (y, x (advanced (advanced p)), z, columns-behind n)
+
+  escape-itself : ((p : Position) → escapedOf t q (cursor (b + 2) p) ≡ escaped.Other) → escapes q ≡ step.Go q (b + 2) (whole-on 2)
+  unfolding escapeOf
+  escape-itself x =
+      let y : b + 1 + 1 ≡ b + 2 = omega arith in
+      rw (y, x (advanced (advanced p)), eq-eqb q q refl, ← columns-behind 0, advanced-by-none)
+
+  -- what was read at once
+  pub whole-twice : {w : Whole} → Whole-at t q b w → (w .width ≡ 0 → ⊥) → Twice white t q start b before (w .c) (b + w .width) (whole-on (w .width))
+  whole-twice none n = absurd (n refl)
+  whole-twice (stands {c} {d} m e g l x) n = twice e g l (escape-stands c d m x)
+  whole-twice (itself e g l x) n = twice e g l (escape-itself x)

@@ -1,4 +1,0 @@
-pub mod Limited
-pub mod Kept
-pub mod Units
-pub mod Standing

@@ -1,4 +1,0 @@
-pub mod Kinds
-pub mod Endings
-pub mod Turns
-pub mod Passing

@@ -1,0 +1,14 @@
+-- Each arm of the match is a law of proofs/Ways.antt on the letters.
+use Rattle.string_turn.proofs.escape.Ways.{letter-r, letter-n, letter-backslash, letter-t, no-letter}
+use Rattle.string_turn.proofs.escape.letter_of.Statement.{statement}
+use Rattle.string_turn.proofs.escape.letter_of.Tie as tie
+
+pub letter-of-spec : {M : Type 1} → statement M
+letter-of-spec =
+    tie.close
+    (tie.spec
+    (λ c. search letter-r)
+    (λ c. search letter-n)
+    (λ c. search letter-backslash)
+    (λ c. search letter-t)
+    (λ c. search no-letter))

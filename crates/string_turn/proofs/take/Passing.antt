@@ -1,0 +1,90 @@
+-- What is passed at once, for each way through the code. Assumes nothing.
+use Prim.Native.Nat.{ℕ, _+_, _≤_, _<_}
+use native.Mathlib.Omega.{arith}
+use mathlib.Core.Bool.{Bool, true, false}
+use mathlib.Core.List.{List}
+use mathlib.Core.Logic.{⊎-elim}
+use mathlib.Core.Path.{_≡_, refl, sym, _∙_}
+use lib.ListN.{length, getD}
+use borrow.Author.Tests.{eqb-true}
+use Rattle.basis.specs.Pick.{isnt}
+use Rattle.basis.proofs.Bounds.{split}
+use Rattle.basis.proofs.Cases.{not-both}
+use Rattle.position.specs.declared.Position.{Position}
+use Rattle.position.specs.Place.{orElse, advanced, advancedBy}
+use Rattle.position.proofs.Moves.{advanced-by-none, first-stays}
+use Rattle.utf8.proofs.Bits.{look-ascii}
+use Rattle.utf8.proofs.Laws.{at-width}
+use Rattle.chars.specs.Stretch as stretch
+use Rattle.chars.specs.Stretch.{Stretch}
+use Rattle.chars.proofs.Stretches.{stretch-low, stretch-within}
+use Rattle.string_turn.specs.Kinds.{lf, cr, dollar, backslash, backtick, leftBrace, isVerbatim}
+use Rattle.string_turn.specs.Take.{nextIs}
+use Rattle.string_turn.specs.Passing.{Plain, Added, feed, lone, sign, slash, placeBehind, stood, Passes, none, some, one, then}
+use Rattle.string_turn.specs.declared.take.Stood.{Stood}
+
+-- ---- what was passed goes on, within the text
+module _ {t : List ℕ} {q : ℕ} where
+  pub passes-low : {u r : Stood} → Passes t q u r → u .at ≤ r .at
+  passes-low none = omega arith
+  passes-low (some x y) = omega (arith, stretch-low x)
+  passes-low (one y e a) = omega arith
+  passes-low (then x y) = omega (arith, passes-low x, passes-low y)
+
+  pub passes-within : {u r : Stood} → Passes t q u r → u .at < r .at → r .at ≤ length t
+  passes-within none h = absurd (omega arith)
+  passes-within (some x y) h = stretch-within x h
+  passes-within (one {u} y e a) h = at-width t (u .at) e .1
+  passes-within (then {u} {v} {r} x y) h =
+      ⊎-elim (λ l. passes-within y l) (λ l. let g = passes-within x (omega (arith, l, h)) in omega (arith, g, l)) (split (v .at) (r .at))
+
+-- ---- a stretch
+pub passed : (t : List ℕ) (q : ℕ) (from : Stood) {k b : ℕ} → Stretch t (Plain q) (from .at) k b → (k ≡ 0 → ⊥)
+    → {p u f : Position} → p ≡ advancedBy k (from .place) → u ≡ advanced (from .place) → f ≡ orElse (from .first) u → Passes t q from (stood b p f)
+passed t q from x n g m h = rw (g, h, m) (some x n)
+
+-- ---- a character that is added, and a stretch behind it
+behind-it : (t : List ℕ) (q at : ℕ) (p f o : Position) {k b : ℕ} → Stretch t (Plain q) at k b → Passes t q (stood at p (orElse f (advanced o))) (stood b (advancedBy k p) (orElse f (advanced o)))
+behind-it t q at p f o stretch.none = rw (advanced-by-none p) none
+behind-it t q at p f o (stretch.more {k} {b} x e y) =
+    let m : Passes t q (stood at p (orElse f (advanced o))) (stood _ (advancedBy (k + 1) p) (orElse (orElse f (advanced o)) (advanced p))) = some (stretch.more x e y) (λ n. omega arith) in
+    rw (first-stays f o (advanced p)) at m
+
+-- each of the four, by what follows it
+not-so : (v : Bool) → isnt v ≡ true → v ≡ false
+not-so true h = not-both h refl
+not-so false h = refl
+
+not-next : {v u : Bool} → v ≡ u → isnt v ≡ true → u ≡ false
+not-next {v} e h = sym e ∙ not-so v h
+
+module _ {t : List ℕ} {at c : ℕ} {v : Bool} where
+  pub is-lone : c ≡ cr → v ≡ nextIs t at lf → isnt v ≡ true → Added t at c
+  is-lone q e h = rw q (lone (not-next e h))
+
+  pub is-sign : c ≡ dollar → v ≡ nextIs t at leftBrace → isnt v ≡ true → Added t at c
+  is-sign q e h = rw q (sign (not-next e h))
+
+  pub is-slash : c ≡ backslash → v ≡ nextIs t at dollar → isnt v ≡ true → Added t at c
+  is-slash q e h = rw q (slash (not-next e h))
+
+added-low : {t : List ℕ} {at c : ℕ} → Added t at c → c < 0x80
+added-low feed = omega arith
+added-low (lone e) = omega arith
+added-low (sign e) = omega arith
+added-low (slash e) = omega arith
+
+module _ (t : List ℕ) (from : Stood) (h : from .at < length t) where
+  pub one-passed : {v : Bool} → (v ≡ true → Added t (from .at + 1) (getD t (from .at) 0)) → v ≡ true → {k b : ℕ} → Stretch t (Plain backtick) (from .at + 1) k b
+      → {o p u f : Position} → o ≡ placeBehind (getD t (from .at) 0) (from .place) → p ≡ advancedBy k o → u ≡ advanced (from .place) → f ≡ orElse (from .first) u → Passes t backtick from (stood b p f)
+  one-passed y w x {o} {p} {u} {f} i g m n =
+      let a = y w in
+      rw (g, n, m, i)
+      (then (one refl (sym (look-ascii t (from .at) h 1 (added-low a) refl)) a) (behind-it t backtick (from .at + 1) (placeBehind (getD t (from .at) 0) (from .place)) (from .first) (from .place) x))
+
+-- ---- in text both, one behind the other
+pub in-text : {t : List ℕ} {q : ℕ} {u v r : Stood} {b : Bool} → b ≡ isVerbatim q → b ≡ true → Passes t q u v → Passes t backtick v r → Passes t q u r
+unfolding isVerbatim
+in-text {q = q} {v = v} {r = r} e h x y =
+    let k : q ≡ backtick = eqb-true q backtick (sym e ∙ h) in
+    then {v = v} {r = r} x (rw k y)

@@ -1,0 +1,7 @@
+pub mod Escapes
+pub mod Whole
+pub mod Kinds
+pub mod Endings
+pub mod Take
+pub mod Passing
+pub mod Act

@@ -1,0 +1,4 @@
+// One turn of a string literal's scan, and the escapes.
+pub mod act;
+pub mod escape;
+pub mod take;
