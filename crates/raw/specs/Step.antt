@@ -7,14 +7,18 @@ use lib.Dec.{eqb, ltb}
 use lib.ListN.{length}
 use Rattle.basis.specs.Pick.{pick, both}
 use Rattle.position.specs.declared.Position.{Position}
+use Rattle.utf8.specs.Table.{lookAt}
+use Rattle.utf8.specs.declared.Look.the-variants.{Char}
 use Rattle.chars.specs.Cursors.{cursor}
 use Rattle.chars.specs.Scan.{on, moveAt, runAt}
+use Rattle.chars.specs.Stretch.{Next}
 use Rattle.chars.specs.declared.cursor.Cursor.{Cursor}
 use Rattle.literal.specs.Trace.{added, tested}
 use Rattle.literal.specs.Cut.{cut}
 use Rattle.literal.specs.declared.Refusal.{Refusal}
 use Rattle.raw.specs.Opening.{quote, hash}
 use Rattle.raw.specs.Raw.{asSource, Body, body, tooLong, placed, rule}
+use Rattle.raw.specs.declared.scan.Lost.{Lost}
 use Rattle.raw.specs.declared.scan.Stand.{Stand}
 
 -- a turn of the body at an offset goes on with n bytes more, at another offset and in another state
@@ -27,6 +31,11 @@ pub record Adds (lines : Bool) (t : List ℕ) (k at : ℕ) (s : Body) (n next : 
 -- a character that ends an attempt to close
 abbrev pub Failing : ℕ → Type 0
 Failing c = (c ≡ quote → ⊥) × (c ≡ hash → ⊥)
+
+-- what a quote is passed with, by what stands behind it: nothing before another quote, which begins the attempt anew; else the character that ends the attempt
+pub data Lost-at (t : List ℕ) (at : ℕ) : Lost → Type 0 where
+  again : lookAt t at ≡ Char quote 1 → Lost-at t at (record { width = 1; columns = 1 })
+  ended : {w : ℕ} → Next t Failing at (length t) w → Lost-at t at (record { width = w + 1; columns = 2 })
 
 -- characters passed at once leave what a limit and a room make of the rest: from one stand to another, further on, with a body that has grown as much
 pub record Passes (t : List ℕ) (limit room held : ℕ) (s r : Stand) : Type 0 where

@@ -1,4 +1,5 @@
 // The scan of a raw string literal: the Rust's `parse_raw_string_literal` with nothing written.
+ghost use mathlib.Core.Bool.{true};
 ghost use mathlib.Core.Path.{_≡_};
 ghost use Prim.Native.Nat.{_≤_, _<_};
 ghost use lib.ListN.{length};
@@ -10,7 +11,7 @@ ghost use Rattle.literal.specs.Cut.{cut};
 ghost use Rattle.literal.specs.declared.Scanned.the-variants as Scanned;
 ghost use Rattle.raw.specs.Opening.{quote, refusal};
 ghost use Rattle.raw.specs.Raw.{asSource, ended, refused, bodyOf, readOf};
-ghost use Rattle.raw.specs.Step.{heldOf, behindOf, Failing, Passes};
+ghost use Rattle.raw.specs.Step.{heldOf, behindOf, Failing, Lost-at, Passes};
 use crate::open;
 use crate::open::Opened;
 use chars::cursor::Cursor;
@@ -140,27 +141,68 @@ fn failing(text: &[u8], at: usize) -> usize
     utf8::width(text, at, c)
 }
 
-// Passes a quote with the character behind it, if that ends the attempt to close: a line feed there starts no line.
+// Whether a quote stands at an offset.
+fn is_quote(text: &[u8], at: usize) -> bool
+    ensures { λ r. ⌜ (r ≡ true → lookAt (now (text .entry)) at ≡ Char quote 1) ⌝ }
+{
+    if at < text.len() {
+        return text[at] as u32 == QUOTE;
+    }
+    false
+}
+
+// How many bytes and columns a quote that closes nothing is passed with: alone where another quote, which begins the attempt to
+// close anew, stands behind it; else with the character that ends the attempt. It has no byte where nothing is passed.
+struct Lost {
+    width: usize,
+    columns: usize,
+}
+
+// What a quote is passed with, by what stands behind it.
+fn lost_at(text: &[u8], at: usize) -> Lost
+    ensures { λ r. ⌜ ((r .width ≡ 0 → ⊥) → Lost-at (now (text .entry)) at r) ⌝ }
+{
+    if is_quote(text, at) {
+        return Lost {
+            width: 1,
+            columns: 1,
+        };
+    }
+    let w = failing(text, at);
+    if w == 0 {
+        return Lost {
+            width: 0,
+            columns: 0,
+        };
+    }
+    Lost {
+        width: w + 1,
+        columns: 2,
+    }
+}
+
+// Passes a quote that closes nothing: a line feed that ends its attempt to close starts no line.
 fn pass_quote(text: &[u8], limit: usize, room: usize, s: Stand) -> Stand
     requires { ⌜ (s .n ≤ room) × (lookAt (now text) (s .here .at) ≡ Char quote 1) ⌝ }
     ensures { λ r. ⌜ Passes (now (text .entry)) limit room 0 s r ⌝ }
 {
     let at = s.here.at;
     let place = s.here.place;
-    let w = failing(text, at + 1);
-    if w == 0 {
+    let lost = lost_at(text, at + 1);
+    let width = lost.width;
+    if width == 0 {
         return s;
     }
-    if literal::most(limit, room, s.n) <= w {
+    if literal::most(limit, room, s.n) < width {
         return s;
     }
     Stand {
         here: Cursor {
-            at: at + 1 + w,
-            place: place.advanced_by(2),
+            at: at + width,
+            place: place.advanced_by(lost.columns),
         },
         first: s.first.or_else(place.advanced()),
-        n: s.n + 1 + w,
+        n: s.n + width,
     }
 }
 
@@ -201,13 +243,16 @@ fn ahead(text: &[u8], limit: usize, room: usize, held: usize, from: Stand) -> St
     }
     let mut s = from;
     loop {
-        let at = s.here.at;
         let kept = pass_one(text, limit, room, s);
-        let next = pass_plain(text, limit, room, kept);
-        if next.here.at == at {
-            return next;
+        if kept.here.at == s.here.at {
+            let next = pass_plain(text, limit, room, kept);
+            if next.here.at == kept.here.at {
+                return next;
+            }
+            s = next;
+        } else {
+            s = kept;
         }
-        s = next;
     }
 }
 

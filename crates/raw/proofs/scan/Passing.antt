@@ -3,13 +3,15 @@ use Prim.Native.Nat.{ℕ, _+_, _-_, _≤_, _<_}
 use native.Mathlib.Omega.{arith}
 use mathlib.Core.Bool.{false}
 use mathlib.Core.List.{List, [], _∷_}
-use mathlib.Core.Path.{_≡_, refl, ap, _∙_}
+use mathlib.Core.Path.{_≡_, refl, sym, ap, _∙_}
+use lib.ListN.{length, getD}
 use Rattle.position.specs.declared.Position.{Position}
 use Rattle.position.specs.Place.{orElse, advanced, advancedBy, lined}
 use Rattle.position.proofs.Moves.{firstBy, advanced-by-none, advanced-by-more, first-by-none, first-by-more, first-by-some, first-stays, two-columns}
 use Rattle.utf8.specs.Table.{lookAt}
 use Rattle.utf8.specs.Encode.{encode}
 use Rattle.utf8.specs.declared.Look.the-variants.{Char}
+use Rattle.utf8.proofs.Bits.{look-ascii}
 use Rattle.utf8.proofs.Laws.{at-width}
 use Rattle.utf8.proofs.Unicode.{size-width}
 use Rattle.chars.specs.Cursors.{cursor}
@@ -25,7 +27,8 @@ use Rattle.literal.specs.declared.Scanned.{Scanned}
 use Rattle.literal.proofs.Limits.{fewer}
 use Rattle.literal.proofs.Within.{adds-within}
 use Rattle.raw.specs.Raw.{asSource, Body, body, heldBack, tooLong, placed, turn, rule}
-use Rattle.raw.specs.Step.{Adds, Failing, Passes}
+use Rattle.raw.specs.Step.{Adds, Failing, Lost-at, again, ended, Passes}
+use Rattle.raw.specs.declared.scan.Lost.{Lost}
 use Rattle.raw.specs.declared.scan.Stand.{Stand}
 use Rattle.raw.proofs.scan.Turns.{quote-adds, line-adds, failed-adds}
 use Rattle.raw.proofs.scan.Loops.{goes-on}
@@ -34,6 +37,10 @@ use Rattle.raw.proofs.scan.Loops.{goes-on}
 abbrev pub Plain : ℕ → Type 0
 Plain c = Other 0x22 0x0A 0x0A 0x0A 0x0A c
 
+-- a character of one byte
+pub one-byte : (t : List ℕ) (at : ℕ) {c : ℕ} → at < length t → getD t at 0 ≡ c → c < 0x80 → lookAt t at ≡ Char c 1
+one-byte t at h e l = sym (look-ascii t at h 1 (rw e l) refl) ∙ ap (λ (x : ℕ). Char x 1) e
+
 -- nothing is passed; one thing behind the other
 pub passes-none : (t : List ℕ) (limit room held : ℕ) (s : Stand) → s .n ≤ room → Passes t limit room held s s
 passes-none t limit room held s h = record { low = omega arith; counts = omega arith; fits = h; same = λ start k full. refl }
@@ -41,6 +48,14 @@ passes-none t limit room held s h = record { low = omega arith; counts = omega a
 pub passes-then : {t : List ℕ} {limit room held : ℕ} {s r u : Stand} → Passes t limit room held s r → Passes t limit room held r u → Passes t limit room held s u
 passes-then p q =
     record { low = omega (arith, p .low, q .low); counts = omega (arith, p .low, q .low, p .counts, q .counts); fits = q .fits; same = λ start k full. p .same start k full ∙ q .same start k full }
+
+-- what a quote is passed with ends within the text
+pub lost-within : {t : List ℕ} {at : ℕ} {x : Lost} → Lost-at t at x → at + x .width ≤ length t + 1
+lost-within {t} {at} (again e) = let h = at-width t at e .1 in omega (arith, h)
+lost-within (ended n) = let h = n .fits in omega (arith, h)
+
+one-column : (p : Position) → advancedBy 1 p ≡ advanced p
+one-column p = advanced-by-more 0 p ∙ ap advanced (advanced-by-none p)
 
 module _ (t : List ℕ) (limit room most : ℕ) (s : Stand) (g : s .n + most ≤ room) (o : 0 < most → passes limit (s .n + most) ≡ false) where
   abbrev from : ℕ
@@ -123,3 +138,36 @@ module _ (t : List ℕ) (limit room most : ℕ) (s : Stand) (g : s .n + most ≤
               (goes-on asSource start t k from before full limit room (s .n) (quote-adds asSource t k from before (ate t (s .here) one) refl) (omega (arith, g)) (omega arith) (omega (arith, g)) (within (s .n) (omega arith) (omega (arith, l)))
               ∙ goes-on asSource start t k (from + 1) attempt full limit room (s .n) kept (omega (arith, g)) (omega (arith, z)) (omega (arith, z, g, l)) (within m (omega (arith, z, l)) (omega (arith, l))));
         }
+
+  -- a quote before another: the attempt that it began is begun anew
+  module _ (one : lookAt t from ≡ Char 0x22 1) (two : lookAt t (from + 1) ≡ Char 0x22 1) (l : 0 < most) where
+    abbrev begun : Body
+    begun = body 1 (advanced (s .here .place)) (orElse (s .first) (advanced (s .here .place)))
+
+    abbrev behind : Body
+    behind = body 0 (advanced (s .here .place)) (orElse (s .first) (advanced (s .here .place)))
+
+    pub passes-again : {m : ℕ} {p q : Position} → p ≡ advancedBy 1 (s .here .place) → q ≡ orElse (s .first) (advanced (s .here .place)) → m ≡ s .n + 1
+        → Passes t limit room 0 s (record { here = cursor (from + 1) p; first = q; n = m })
+    passes-again {m} x y z =
+        record {
+          low = omega arith;
+          counts = omega (arith, z);
+          fits = omega (arith, z, g, l);
+          same = λ start k full.
+              let there = ate t (cursor (from + 1) (advanced (s .here .place))) two in
+              rw (y, x, one-column (s .here .place))
+              (goes-on asSource start t k from before full limit room (s .n) (quote-adds asSource t k from before (ate t (s .here) one) refl) (omega (arith, g)) (omega arith) (omega (arith, g)) (within (s .n) (omega arith) l)
+              ∙ goes-on asSource start t k (from + 1) begun full limit room (s .n) (quote-adds asSource t k (from + 1) begun there refl) (omega (arith, g)) (omega (arith, z)) (omega (arith, z, g, l)) (within m (omega (arith, z, l)) l)
+              ∙ sym (goes-on asSource start t k (from + 1) behind full limit room m (quote-adds asSource t k (from + 1) behind there refl) (omega (arith, z, g, l)) (omega arith) (omega (arith, z, g, l)) (within m (omega (arith, z, l)) l)));
+        }
+
+  -- a quote that closes nothing, by what stands behind it
+  pub passes-lost : lookAt t from ≡ Char 0x22 1 → {x : Lost} → Lost-at t (from + 1) x → x .width ≤ most
+      → {m : ℕ} {p q : Position} → p ≡ advancedBy (x .columns) (s .here .place) → q ≡ orElse (s .first) (advanced (s .here .place)) → m ≡ s .n + x .width
+      → Passes t limit room 0 s (record { here = cursor (from + x .width) p; first = q; n = m })
+  passes-lost one (again two) l e f z = passes-again one two (omega (arith, l)) e f z
+  passes-lost one (ended {w} two) l {m} e f z =
+      let y : from + 1 + w ≡ from + (w + 1) = omega arith in
+      let v : m ≡ s .n + 1 + w = omega (arith, z) in
+      rw (← y) (passes-quote one (two .found) (two .is) (omega (arith, l)) e f v)

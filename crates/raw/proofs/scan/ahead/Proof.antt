@@ -15,31 +15,43 @@ Inv-loop text limit room held s₀ s = Passes text limit room 0 s₀ s
 abbrev μ-loop : tie.MeasureT-loop
 μ-loop text limit room held s₀ s = room - s .n
 
--- behind what a turn of the loop passed
-module _ (k : tie.After-pass-plain Inv-loop μ-loop) where
+-- behind what a turn of the loop passed: one thing
+module _ (k : tie.After-pass-one Inv-loop μ-loop) where
   abbrev top : tie.At-loop Inv-loop μ-loop
-  top = k .before .before
+  top = k .before
 
   abbrev begin : tie.Start Inv-loop μ-loop
   begin = top .before .before .before
 
-  once : Passes (begin .args .text .now) (begin .args .limit) (begin .args .room) 0 (top .loop .s) (k .pass-plain .result)
-  once = passes-then (k .before .pass-one .ensures) (k .pass-plain .ensures)
-
-  further : Passes (begin .args .text .now) (begin .args .limit) (begin .args .room) 0 (begin .args .from) (k .pass-plain .result)
-  further = passes-then (top .loop .inv) once
+  one : Passes (begin .args .text .now) (begin .args .limit) (begin .args .room) 0 (begin .args .from) (k .pass-one .result)
+  one = passes-then (top .loop .inv) (k .pass-one .ensures)
 
   outside : begin .args .held ≡ 0
   outside = omega (arith, top .before .if1 .left)
 
+-- or plain characters
+module _ (k : tie.After-pass-plain Inv-loop μ-loop) where
+  abbrev kept : tie.After-pass-one Inv-loop μ-loop
+  kept = k .before .before .before .before
+
+  further : Passes (begin kept .args .text .now) (begin kept .args .limit) (begin kept .args .room) 0 (begin kept .args .from) (k .pass-plain .result)
+  further = passes-then (one kept) (k .pass-plain .ensures)
+
 returns-2 : tie.Need-returns-2 Inv-loop μ-loop
-returns-2 c = let k = c .before .before in rw (outside k) (further k)
+returns-2 c = let k = c .before .before .before in rw (outside (kept k)) (further k)
 
 loop-less : tie.Need-loop-less Inv-loop μ-loop
 loop-less c =
-    let k = c .before .before in
-    let p = once k in
-    omega (arith, p .low, p .counts, p .fits, c .if2 .left)
+    let k = c .before .before .before in
+    let p = k .pass-plain .ensures in
+    let q = kept k .pass-one .ensures in
+    omega (arith, p .low, p .counts, p .fits, q .low, q .counts, c .if3 .left)
+
+loop-less-2 : tie.Need-loop-less-2 Inv-loop μ-loop
+loop-less-2 c =
+    let k = c .before .before .before in
+    let q = k .pass-one .ensures in
+    omega (arith, q .low, q .counts, q .fits, c .if2 .left)
 
 pub ahead-spec : {M : Type 1} → statement M
 ahead-spec =
@@ -50,7 +62,9 @@ ahead-spec =
     (λ c. passes-none _ _ _ _ _ (c .before .before .pre))
     (λ c. passes-none _ _ _ _ _ (c .before .before .pre))
     (λ c κs. c .loop .inv .fits)
-    (λ c κs. c .pass-one .ensures .fits)
+    (λ c κs. c .before .before .before .pass-one .ensures .fits)
     returns-2
     loop-less
-    (λ c. further (c .before .before)))
+    (λ c. further (c .before .before .before))
+    loop-less-2
+    (λ c. one (c .before .before .before)))

@@ -1,21 +1,11 @@
 -- A line feed is one turn: proofs/Passing.antt.
 use native.Mathlib.Omega.{arith}
-use mathlib.Core.Path.{_≡_, refl, sym, ap, _∙_}
-use Prim.Native.Nat.{ℕ, _<_}
-use mathlib.Core.List.{List}
-use lib.ListN.{length, getD}
+use mathlib.Core.Path.{refl, ap, _∙_}
 use borrow.Author.Needs.{needs}
 use Rattle.position.specs.Place.{lined}
-use Rattle.utf8.specs.Table.{lookAt}
-use Rattle.utf8.specs.declared.Look.the-variants.{Char}
-use Rattle.utf8.proofs.Bits.{look-ascii}
-use Rattle.raw.proofs.scan.Passing.{passes-none, passes-line}
+use Rattle.raw.proofs.scan.Passing.{one-byte, passes-none, passes-line}
 use Rattle.raw.proofs.scan.pass_one.Statement.{statement}
 use Rattle.raw.proofs.scan.pass_one.Tie as tie
-
--- a character of one byte
-one-byte : (t : List ℕ) (at : ℕ) {c : ℕ} → at < length t → getD t at 0 ≡ c → c < 0x80 → lookAt t at ≡ Char c 1
-one-byte t at h e l = sym (look-ascii t at h 1 (rw e l) refl) ∙ ap (λ (x : ℕ). Char x 1) e
 
 pass-quote-requires : tie.Need-pass-quote-requires
 pass-quote-requires c κs =
