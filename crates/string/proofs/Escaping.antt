@@ -1,14 +1,15 @@
--- A whole escape is two turns: one takes the backslash and adds nothing, the other adds what the escape stands for. So is a backslash at the end of a line, which adds nothing. Assumes nothing.
-use Prim.Native.Nat.{ℕ, _+_, _-_, _≤_}
+-- A whole escape is two turns: one takes the backslash and adds nothing, the other adds what the escape stands for. So is a backslash at the end of a line, which adds nothing. A space that is skipped is one turn. Assumes nothing.
+use Prim.Native.Nat.{ℕ, _+_, _-_, _≤_, _<_}
 use native.Mathlib.Omega.{arith}
-use mathlib.Core.Bool.{Bool}
+use mathlib.Core.Bool.{Bool, true, false}
 use mathlib.Core.List.{List}
 use mathlib.Core.Path.{_≡_, refl, _∙_}
 use lib.Dec.{eqb}
-use borrow.Author.Tests.{eq-eqb, ne-eqb}
+use borrow.Author.Tests.{eq-eqb, ne-eqb, lt-ltb}
+use Rattle.basis.specs.Pick.{isnt}
 use Rattle.basis.proofs.Cases.{both-no}
 use Rattle.position.specs.declared.Position.{Position}
-use Rattle.position.specs.Place.{orElse, advanced, advancedBy, lined}
+use Rattle.position.specs.Place.{orElse, advanced, advancedBy, lined, columnNumber}
 use Rattle.position.proofs.Moves.{advanced-by-none, advanced-by-more, advanced-by-first, first-stays}
 use Rattle.utf8.specs.Table.{lookAt}
 use Rattle.utf8.specs.declared.Look.the-variants.{Char}
@@ -23,11 +24,11 @@ use Rattle.string_turn.specs.Take.{state, isEmpty, takeOf}
 use Rattle.string_turn.specs.declared.take.Pending.the-variants.{Empty, Backslash}
 use Rattle.string_turn.specs.declared.take.State.{State}
 use Rattle.string_turn.specs.declared.take.Got.the-variants as got
-use Rattle.string_turn.specs.Act.{columnOf, closeOf, lineFeedOf, escapeOf, plainOf, otherOf, matchOf, actOf}
+use Rattle.string_turn.specs.Act.{columnOf, closeOf, lineFeedOf, escapeOf, addOf, plainOf, otherOf, matchOf, actOf}
 use Rattle.string_turn.specs.declared.act.Step.{Step}
 use Rattle.string_turn.specs.declared.act.Step.the-variants as step
 use Rattle.string.specs.Reading.{Escaping}
-use Rattle.string.proofs.Readings.{Twice, twice-on}
+use Rattle.string.proofs.Readings.{Once, once-on, Twice, twice-on}
 
 module _ (white : ℕ → Bool) (t : List ℕ) (q : ℕ) (start : Position) (i : Escaping q) (p f : Position) (k b : ℕ) where
   -- before the backslash, and behind it
@@ -90,6 +91,22 @@ module _ (white : ℕ → Bool) (t : List ℕ) (q : ℕ) (start : Position) (i :
 
       pub continues-twice : Twice white t q start b before nothing (b + 1 + 1) below
       continues-twice = twice-on white t q start b before took acted took-feed acted-feed
+
+  -- ---- a space in a column below which white space is skipped: one turn, which adds nothing
+  module _ (e : lookAt t b ≡ Char 0x20 1) (o : eqb 0x20 q ≡ false) (w : white 0x20 ≡ true) (l : columnNumber (advanced p) < k) where
+    abbrev skipping : State
+    skipping = state (advanced p) (orElse f (advanced p)) Empty k
+
+    took-space : takeOf t q start b before ≡ got.Char 0x20 (cursor (b + 1) (advanced p))
+    unfolding takeOf
+    took-space = rw (ate t (cursor b p) e, i .whole)
+
+    acted-space : actOf white t q start 0x20 (cursor (b + 1) (advanced p)) before ≡ step.Go nothing (b + 1) skipping
+    unfolding actOf closeOf matchOf otherOf plainOf addOf columnOf
+    acted-space = rw (o, both-no (isnt (isVerbatim q)), w, lt-ltb (columnNumber (advanced p)) k l)
+
+    pub skips-once : Once white t q start b before nothing (b + 1) skipping
+    skips-once = once-on white t q start b before took-space acted-space
 
   -- an escape that all literals have, and the escaped terminator
   abbrev escapes : ℕ → Step

@@ -1,4 +1,4 @@
--- What is read at once: a doubled terminator, a whole escape, a backslash at the end of a line, and in text a CR before LF and `\$` before `{`. Each adds one character or none.
+-- What is read at once: a doubled terminator, a whole escape, a backslash at the end of a line, a space that is skipped behind it, and in text a CR before LF and `\$` before `{`. Each adds one character or none.
 use Prim.Native.Nat.{ℕ, _+_, _<_}
 use mathlib.Core.Bool.{false}
 use mathlib.Core.List.{List}
@@ -22,6 +22,10 @@ use Rattle.string.specs.declared.scan.Unit.{Unit}
 -- one of the three terminators
 abbrev pub Terminator-of : ℕ → Type 0
 Terminator-of q = (q ≡ quote) ⊎ (q ≡ apostrophe) ⊎ (q ≡ backtick)
+
+-- the space
+abbrev pub space : ℕ
+space = 0x20
 
 -- a character of one byte stands at an offset
 pub record Stands-at (t : List ℕ) (at c : ℕ) : Type 0 where

@@ -13,7 +13,7 @@ ghost use Rattle.string.specs.Ends.{tooLongAt, fullAt, lastOf};
 ghost use Rattle.string.specs.Reading.{begun, readingOf};
 ghost use Rattle.string.specs.Limited.{Answers, Tells};
 ghost use Rattle.string.specs.Kept.{Kept};
-ghost use Rattle.string.specs.Units.{Terminator-of, Stands-at, clearOf, standOf, Reads, Reads-anywhere};
+ghost use Rattle.string.specs.Units.{Terminator-of, Stands-at, space, clearOf, standOf, Reads, Reads-anywhere};
 ghost use Rattle.string.specs.Standing.{Leads, Leads-anywhere};
 use chars::cursor::Cursor;
 use fault::Fault;
@@ -32,6 +32,8 @@ use string_turn::take::Stood;
 const LF: u32 = 0x0A;
 
 const CR: u32 = 0x0D;
+
+const SPACE: u32 = 0x20;
 
 const QUOTE: u32 = 0x22;
 
@@ -61,13 +63,14 @@ struct Clear {
     n: usize,
 }
 
-// What is read at once and adds one character or none: its bytes, the place behind it, and below which column white space is skipped
-// there. It has no byte where nothing is read.
+// What is read at once and adds one character or none: its bytes, the place behind it, below which column white space is skipped
+// there, and whether a plain byte is likely to stand behind it. It has no byte where nothing is read.
 struct Unit {
     c: u32,
     width: usize,
     place: Position,
     skip: usize,
+    more: bool,
 }
 
 const NONE: Unit = Unit {
@@ -75,6 +78,7 @@ const NONE: Unit = Unit {
     width: 0,
     place: Position::NONE,
     skip: 0,
+    more: false,
 };
 
 // A turn under a limit: as Step, or the answer.
@@ -87,10 +91,10 @@ enum Turned {
 fn size(c: u32) -> usize
     ensures { λ r. ⌜ r ≡ length (encoded c) ⌝ }
 {
+    if c < 0x80 {
+        return 1;
+    }
     if utf8::is_scalar(c) {
-        if c < 0x80 {
-            return 1;
-        }
         if c < 0x800 {
             return 2;
         }
@@ -192,6 +196,7 @@ fn doubled(text: &[u8], q: u32, here: Clear) -> Unit
             width: 2,
             place: here.place.advanced_by(2),
             skip: 0,
+            more: byte_at(text, here.at + 2) != q,
         };
     }
     NONE
@@ -208,6 +213,7 @@ fn feed(text: &[u8], here: Clear) -> Unit
             width: 2,
             place: here.place.advanced_by(2).lined(),
             skip: here.skip,
+            more: false,
         };
     }
     NONE
@@ -225,6 +231,7 @@ fn sign(text: &[u8], here: Clear) -> Unit
                 width: 2,
                 place: here.place.advanced(),
                 skip: 0,
+                more: true,
             };
         }
         return NONE;
@@ -245,6 +252,7 @@ fn escaped(text: &[u8], q: u32, start: Position, here: Clear) -> Unit
                 width: 2,
                 place: here.place.advanced_by(2).lined(),
                 skip: start.column_number() as usize + 1,
+                more: false,
             };
         }
         return NONE;
@@ -256,7 +264,27 @@ fn escaped(text: &[u8], q: u32, start: Position, here: Clear) -> Unit
         width: whole.width,
         place: here.place.advanced_by(whole.width),
         skip,
+        more: false,
     }
+}
+
+// Behind the end of a line, a space that is skipped gives nothing.
+fn skipped(text: &[u8], q: u32, here: Clear) -> Unit
+    requires { ⌜ Terminator-of q × (q ≡ backtick → ⊥) × Stands-at (now text) (here .at) space ⌝ }
+    ensures { λ r. ⌜ ((r .width ≡ 0 → ⊥) → Reads-anywhere (now (text .entry)) q here r) ⌝ }
+{
+    let place = here.place.advanced();
+    let below = here.skip;
+    if (place.column_number() as usize) < below {
+        return Unit {
+            c: string_turn::escape::NOTHING,
+            width: 1,
+            place,
+            skip: below,
+            more: false,
+        };
+    }
+    NONE
 }
 
 // What is read at once where a scan stands.
@@ -283,6 +311,9 @@ fn unit_at(text: &[u8], q: u32, start: Position, here: Clear) -> Unit
     }
     if b == BACKSLASH {
         return escaped(text, q, start, here);
+    }
+    if b == SPACE {
+        return skipped(text, q, here);
     }
     NONE
 }
@@ -334,7 +365,50 @@ fn copy(text: &[u8], at: usize, to: usize, out: &mut [u8], n: usize)
     }
 }
 
-// Reads a unit, if one stands here and neither the limit nor the room is in the way.
+// Writes a character's bytes, where they have room. Most are ASCII.
+fn put(c: u32, out: &mut [u8], n: usize)
+    ensures { λ _. ⌜ now (out .exit) ≡ stored (now (out .entry)) n (encoded c) ⌝ }
+{
+    if c < 0x80 {
+        if n < out.len() {
+            out[n] = c as u8;
+        }
+        return;
+    }
+    utf8::encoder::put(c, out, n);
+}
+
+// Reads one byte that a turn would only take and add, if neither the limit nor the room is in the way.
+fn add_byte(text: &[u8], q: u32, limit: usize, room: usize, here: Clear, out: &mut [u8]) -> Clear
+    requires { ⌜ Terminator-of q × (here .n ≤ room) ⌝ }
+    ensures { λ r. ⌜ Leads-anywhere (now (text .entry)) q limit room (standOf here) (now (out .entry)) (standOf r) (now (out .exit)) ⌝ }
+{
+    let below = here.skip;
+    if below != 0 {
+        return here;
+    }
+    let at = here.at;
+    let place = here.place;
+    let first = here.first;
+    let n = here.n;
+    if literal::most(limit, room, n) == 0 {
+        return here;
+    }
+    let stood = string_turn::take::pass_byte(text, q, Stood { at, place, first });
+    let end = stood.at;
+    copy(text, at, end, out, n);
+    let place = stood.place;
+    let first = stood.first;
+    Clear {
+        at: end,
+        place,
+        first,
+        skip: 0,
+        n: n + (end - at),
+    }
+}
+
+// Reads a unit, if one stands here and neither the limit nor the room is in the way, and the byte behind it where one is likely.
 fn add_unit(
     text: &[u8],
     q: u32,
@@ -348,29 +422,31 @@ fn add_unit(
     ensures { λ r. ⌜ Leads (now (text .entry)) q start limit room (standOf here) (now (out .entry)) (standOf r) (now (out .exit)) ⌝ }
 {
     let n = here.n;
-    let left = room - n;
     if literal::is_over(limit, here.n) {
         return here;
     }
     let unit = unit_at(text, q, start, here);
-    let width = unit.width;
-    if width == 0 {
+    if unit.width == 0 {
         return here;
     }
     let m = size(unit.c);
-    if left < m {
+    if room - n < m {
         return here;
     }
-    utf8::encoder::put(unit.c, out, n);
+    put(unit.c, &mut *out, n);
     let first = here.first.or_else(here.place.advanced());
     let place = unit.place;
-    Clear {
-        at: here.at + width,
+    let next = Clear {
+        at: here.at + unit.width,
         place,
         first,
         skip: unit.skip,
         n: n + m,
+    };
+    if unit.more {
+        return add_byte(text, q, limit, room, next, out);
     }
+    next
 }
 
 // Reads what turns would only take and add, as far as neither the limit nor the room is in the way.

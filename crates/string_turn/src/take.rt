@@ -5,7 +5,7 @@ ghost use Prim.Native.Nat.{_+_, _≤_, _<_};
 ghost use Rattle.string_turn.specs.Kinds.{backtick, isVerbatim, isContinued, isInterpolated};
 ghost use Rattle.string_turn.specs.Endings.{once, ending, unterminatedAt};
 ghost use Rattle.string_turn.specs.Take.{isEmpty, nextIs, endOf, dollarOf, takeOf};
-ghost use Rattle.string_turn.specs.Passing.{Added, placeBehind, Passes};
+ghost use Rattle.string_turn.specs.Passing.{Plain, Added, placeBehind, Passes};
 use chars::cursor::Cursor;
 use chars::cursor::Taken;
 use fault::Fault;
@@ -219,6 +219,49 @@ fn stretch(text: &[u8], q: u32, most: usize, from: Stood) -> Stood
     }
 }
 
+// Whether a byte is a character, and neither the terminator nor one that the rules name.
+fn is_plain(q: u32, b: u32) -> bool
+    ensures { λ r. ⌜ (r ≡ true → (b < 0x80) × Plain q b) ⌝ }
+{
+    if b == q {
+        return false;
+    }
+    if b == BACKSLASH {
+        return false;
+    }
+    if b == DOLLAR {
+        return false;
+    }
+    if b == LF {
+        return false;
+    }
+    if b == CR {
+        return false;
+    }
+    b < 0x80
+}
+
+// Inner: passes one such byte, if one stands here. It is for places where more of them are unlikely: a stretch takes longer to begin.
+pub fn pass_byte(text: &[u8], q: u32, from: Stood) -> Stood
+    ensures { λ r. ⌜ Passes (now (text .entry)) q from r ⌝ }
+    ensures { λ r. ⌜ r .at ≤ from .at + 1 ⌝ }
+{
+    let at = from.at;
+    if text.len() <= at {
+        return from;
+    }
+    if is_plain(q, text[at] as u32) {
+        let place = from.place;
+        let first = from.first.or_else(place.advanced());
+        return Stood {
+            at: at + 1,
+            place: place.advanced_by(1),
+            first,
+        };
+    }
+    from
+}
+
 // Whether a turn of text only adds the character c, which ends at an offset, although the rules name it.
 fn is_added(text: &[u8], c: u32, end: usize) -> bool
     ensures { λ r. ⌜ (r ≡ true → Added (now (text .entry)) end c) ⌝ }
@@ -249,11 +292,10 @@ fn place_behind(c: u32, p: Position) -> Position
     next
 }
 
-// In text, passes a character that ended a stretch, if a turn only adds it, and the stretch behind it.
-fn pass_one(text: &[u8], most: usize, from: Stood) -> Stood
-    requires { ⌜ 0 < most ⌝ }
+// In text, passes a character that the rules name, if a turn only adds it.
+fn pass_one(text: &[u8], from: Stood) -> Stood
     ensures { λ r. ⌜ Passes (now (text .entry)) backtick from r ⌝ }
-    ensures { λ r. ⌜ r .at ≤ from .at + most ⌝ }
+    ensures { λ r. ⌜ r .at ≤ from .at + 1 ⌝ }
 {
     let at = from.at;
     if text.len() <= at {
@@ -262,16 +304,33 @@ fn pass_one(text: &[u8], most: usize, from: Stood) -> Stood
     let c = text[at] as u32;
     let end = at + 1;
     if is_added(text, c, end) {
-        let passed = chars::passing::pass(text, end, most - 1, BACKTICK, BACKSLASH, DOLLAR, LF, CR);
         let place = from.place;
         let behind = place_behind(c, place);
         return Stood {
-            at: passed.at,
-            place: behind.advanced_by(passed.count),
+            at: end,
+            place: behind,
             first: from.first.or_else(place.advanced()),
         };
     }
     from
+}
+
+// In text, passes the characters that the rules name, as long as turns only add them.
+fn pass_added(text: &[u8], most: usize, from: Stood) -> Stood
+    ensures { λ r. ⌜ Passes (now (text .entry)) backtick from r ⌝ }
+    ensures { λ r. ⌜ r .at ≤ from .at + most ⌝ }
+{
+    let mut here = from;
+    let mut left = most;
+    while 0 < left {
+        let next = pass_one(text, here);
+        if next.at == here.at {
+            return next;
+        }
+        left -= 1;
+        here = next;
+    }
+    here
 }
 
 // In text, passes all that turns only add, behind a stretch.
@@ -281,16 +340,16 @@ fn pass_on(text: &[u8], most: usize, from: Stood) -> Stood
 {
     let mut here = from;
     let mut left = most;
-    while 0 < left {
-        let next = pass_one(text, left, here);
-        let passed = next.at - here.at;
-        if passed == 0 {
-            return next;
+    loop {
+        let one = pass_added(text, left, here);
+        if one.at == here.at {
+            return one;
         }
-        left -= passed;
+        left -= one.at - here.at;
+        let next = stretch(text, BACKTICK, left, one);
+        left -= next.at - one.at;
         here = next;
     }
-    here
 }
 
 // Inner: passes at once what turns would only take and add, in `most` bytes at the most, for a terminator, which is ASCII. Most

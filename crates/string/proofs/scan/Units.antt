@@ -2,10 +2,11 @@
 use Prim.Native.Nat.{ℕ, _+_, _<_}
 use native.Mathlib.Omega.{arith}
 use native.Mathlib.Nat.{add-zero}
-use mathlib.Core.Bool.{false}
+use mathlib.Core.Bool.{true, false}
 use mathlib.Core.List.{List, []}
 use mathlib.Core.Logic.{_⊎_, inl, inr, ⊎-elim}
 use mathlib.Core.Path.{_≡_, refl, sym, ap, _∙_}
+use lib.Dec.{eqb}
 use lib.ListN.{length, getD, List·getD-eq-default}
 use Rattle.basis.proofs.Bounds.{split}
 use Rattle.position.specs.declared.Position.{Position}
@@ -30,11 +31,11 @@ use Rattle.string_turn.specs.declared.take.State.{State}
 use Rattle.string_turn.specs.Act.{columnOf}
 use Rattle.string.specs.Reading.{rest, Escaping, Terminating}
 use Rattle.string.proofs.Readings.{Once, once-on, Twice}
-use Rattle.string.proofs.Escaping.{whole-twice, continues-twice}
+use Rattle.string.proofs.Escaping.{whole-twice, continues-twice, skips-once}
 use Rattle.string.proofs.Doubling.{doubled-taken, doubled-acted}
 use Rattle.string.proofs.Texts.{feed-twice, sign-once}
 use Rattle.string.specs.Limited.{GoesOn}
-use Rattle.string.specs.Units.{Terminator-of, Stands-at, stateOf, Reads, Reads-anywhere}
+use Rattle.string.specs.Units.{Terminator-of, Stands-at, space, stateOf, Reads, Reads-anywhere}
 use Rattle.string.specs.declared.scan.Clear.{Clear}
 use Rattle.string.specs.declared.scan.Unit.{Unit}
 
@@ -68,6 +69,15 @@ pub escapes : {q : ℕ} → Terminator-of q → (q ≡ backtick → ⊥) → Esc
 escapes (inl e) n = quote-escapes e
 escapes (inr (inl e)) n = apostrophe-escapes e
 escapes (inr (inr e)) n = absurd (n e)
+
+no-space : {q : ℕ} → Terminator-of q → eqb space q ≡ false
+no-space (inl e) = rw e refl
+no-space (inr (inl e)) = rw e refl
+no-space (inr (inr e)) = rw e refl
+
+white-space : isWhite space ≡ true
+unfolding isWhite
+white-space = refl
 
 -- ---- the characters that a unit is made of
 pub ascii-at : (t : List ℕ) (at : ℕ) {b c : ℕ} → b ≡ getD t at 0 → b ≡ c → 0 < c → c < 0x80 → Stands-at t at c
@@ -118,7 +128,7 @@ goes-as : {t : List ℕ} {q : ℕ} {start : Position} {limit n at d : ℕ} {s : 
 goes-as g e h = rw (← e, ← h) g
 
 abbrev pub unit : ℕ → ℕ → Position → ℕ → Unit
-unit c w p k = record { c = c; width = w; place = p; skip = k }
+unit c w p k = record { c = c; width = w; place = p; skip = k; more = false }
 
 module _ (t : List ℕ) (q : ℕ) (here : Clear) where
   abbrev p : Position
@@ -142,6 +152,13 @@ module _ (t : List ℕ) (q : ℕ) (here : Clear) where
       → (x .width ≡ 0 → ⊥) → Reads-anywhere t q here (unit (x .c) (x .width) w (here .skip))
   escape-reads i n {x} y {w} e z start limit within =
       rw e (twice-goes t q start (here .at) (stateOf here) limit (here .n) within (whole-twice isWhite t q start (escapes i n) p f (here .skip) (here .at) y z))
+
+  -- a space that is skipped: one turn
+  pub skipped-reads : Terminator-of q → (q ≡ backtick → ⊥) → Stands-at t (here .at) space → {w : Position} {k : ℕ} → w ≡ advanced p → k ≡ columnNumber w → k < here .skip
+      → Reads-anywhere t q here (unit nothing 1 w (here .skip))
+  skipped-reads i n one {w} {k} e c l start limit within =
+      let h : columnNumber (advanced p) < here .skip = rw (← e, ← c) l in
+      rw e (once-goes t q start (here .at) (stateOf here) limit (here .n) within (skips-once isWhite t q start (escapes i n) p f (here .skip) (here .at) (one .is) (no-space i) white-space h))
 
   -- a backslash at the end of a line: two turns
   pub continues-reads : q ≡ quote → Stands-at t (here .at) backslash → Stands-at t (here .at + 1) lf → (start : Position)

@@ -6,18 +6,17 @@ use mathlib.Core.List.{List}
 use mathlib.Core.Logic.{⊎-elim}
 use mathlib.Core.Path.{_≡_, refl, sym, _∙_}
 use lib.ListN.{length, getD}
-use borrow.Author.Tests.{eqb-true}
+use borrow.Author.Tests.{eqb-true, ne-eqb}
 use Rattle.basis.specs.Pick.{isnt}
 use Rattle.basis.proofs.Bounds.{split}
 use Rattle.basis.proofs.Cases.{not-both}
 use Rattle.position.specs.declared.Position.{Position}
 use Rattle.position.specs.Place.{orElse, advanced, advancedBy}
-use Rattle.position.proofs.Moves.{advanced-by-none, first-stays}
 use Rattle.utf8.proofs.Bits.{look-ascii}
 use Rattle.utf8.proofs.Laws.{at-width}
 use Rattle.chars.specs.Stretch as stretch
 use Rattle.chars.specs.Stretch.{Stretch}
-use Rattle.chars.proofs.Stretches.{stretch-low, stretch-within}
+use Rattle.chars.proofs.Stretches.{stretch-low, stretch-within, one-more}
 use Rattle.string_turn.specs.Kinds.{lf, cr, dollar, backslash, backtick, leftBrace, isVerbatim}
 use Rattle.string_turn.specs.Take.{nextIs}
 use Rattle.string_turn.specs.Passing.{Plain, Added, feed, lone, sign, slash, placeBehind, stood, Passes, none, some, one, then}
@@ -43,13 +42,19 @@ pub passed : (t : List ℕ) (q : ℕ) (from : Stood) {k b : ℕ} → Stretch t (
     → {p u f : Position} → p ≡ advancedBy k (from .place) → u ≡ advanced (from .place) → f ≡ orElse (from .first) u → Passes t q from (stood b p f)
 passed t q from x n g m h = rw (g, h, m) (some x n)
 
--- ---- a character that is added, and a stretch behind it
-behind-it : (t : List ℕ) (q at : ℕ) (p f o : Position) {k b : ℕ} → Stretch t (Plain q) at k b → Passes t q (stood at p (orElse f (advanced o))) (stood b (advancedBy k p) (orElse f (advanced o)))
-behind-it t q at p f o stretch.none = rw (advanced-by-none p) none
-behind-it t q at p f o (stretch.more {k} {b} x e y) =
-    let m : Passes t q (stood at p (orElse f (advanced o))) (stood _ (advancedBy (k + 1) p) (orElse (orElse f (advanced o)) (advanced p))) = some (stretch.more x e y) (λ n. omega arith) in
-    rw (first-stays f o (advanced p)) at m
+-- ---- one byte
+pub is-plain : (q c : ℕ) → (c ≡ q → ⊥) → (c ≡ backslash → ⊥) → (c ≡ dollar → ⊥) → (c ≡ lf → ⊥) → (c ≡ cr → ⊥) → Plain q c
+unfolding stretch.among
+is-plain q c a b d e f = rw (ne-eqb c q a, ne-eqb c backslash b, ne-eqb c dollar d, ne-eqb c lf e, ne-eqb c cr f)
 
+module _ (t : List ℕ) (q : ℕ) (from : Stood) (h : from .at < length t) where
+  pub byte-passed : {v : Bool} → (v ≡ true → (getD t (from .at) 0 < 0x80) × Plain q (getD t (from .at) 0)) → v ≡ true
+      → {p u f : Position} → p ≡ advancedBy 1 (from .place) → u ≡ advanced (from .place) → f ≡ orElse (from .first) u → Passes t q from (stood (from .at + 1) p f)
+  byte-passed y w g m n =
+      let a = y w in
+      passed t q from (one-more {k = 0} stretch.none (sym (look-ascii t (from .at) h 1 (a .0) refl)) (a .1) refl) (λ e. omega (arith, e)) g m n
+
+-- ---- a character that is added
 -- each of the four, by what follows it
 not-so : (v : Bool) → isnt v ≡ true → v ≡ false
 not-so true h = not-both h refl
@@ -75,12 +80,11 @@ added-low (sign e) = omega arith
 added-low (slash e) = omega arith
 
 module _ (t : List ℕ) (from : Stood) (h : from .at < length t) where
-  pub one-passed : {v : Bool} → (v ≡ true → Added t (from .at + 1) (getD t (from .at) 0)) → v ≡ true → {k b : ℕ} → Stretch t (Plain backtick) (from .at + 1) k b
-      → {o p u f : Position} → o ≡ placeBehind (getD t (from .at) 0) (from .place) → p ≡ advancedBy k o → u ≡ advanced (from .place) → f ≡ orElse (from .first) u → Passes t backtick from (stood b p f)
-  one-passed y w x {o} {p} {u} {f} i g m n =
+  pub one-passed : {v : Bool} → (v ≡ true → Added t (from .at + 1) (getD t (from .at) 0)) → v ≡ true
+      → {p u f : Position} → p ≡ placeBehind (getD t (from .at) 0) (from .place) → u ≡ advanced (from .place) → f ≡ orElse (from .first) u → Passes t backtick from (stood (from .at + 1) p f)
+  one-passed y w g m n =
       let a = y w in
-      rw (g, n, m, i)
-      (then (one refl (sym (look-ascii t (from .at) h 1 (added-low a) refl)) a) (behind-it t backtick (from .at + 1) (placeBehind (getD t (from .at) 0) (from .place)) (from .first) (from .place) x))
+      rw (g, n, m) (one refl (sym (look-ascii t (from .at) h 1 (added-low a) refl)) a)
 
 -- ---- in text both, one behind the other
 pub in-text : {t : List ℕ} {q : ℕ} {u v r : Stood} {b : Bool} → b ≡ isVerbatim q → b ≡ true → Passes t q u v → Passes t backtick v r → Passes t q u r

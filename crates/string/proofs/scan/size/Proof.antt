@@ -7,8 +7,8 @@ use Rattle.string.proofs.scan.size.Tie as tie
 pub size-spec : {M : Type 1} → statement M
 size-spec = tie.close
     (tie.spec
+    (λ c. size1 _ (c .if1 .taken))
     (λ c κs. search needs)
-    (λ c. search size1)
     (λ c. search size2)
     (λ c. search size3)
     (λ c. search size4)

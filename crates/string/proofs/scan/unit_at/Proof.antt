@@ -30,6 +30,12 @@ escaped-requires c κs =
     let begin = text .before .before .before .before .before in
     (begin .pre, text .if3 .left, ascii-at _ _ refl (c .if6 .taken) (omega arith) (omega arith))
 
+skipped-requires : tie.Need-skipped-requires
+skipped-requires c κs =
+    let text = c .before .before in
+    let begin = text .before .before .before .before .before in
+    (begin .pre, text .if3 .left, ascii-at _ _ refl (c .if7 .taken) (omega arith) (omega arith))
+
 pub unit-at-spec : {M : Type 1} → statement M
 unit-at-spec =
     tie.close
@@ -46,4 +52,6 @@ unit-at-spec =
     (λ c n. absurd (n refl))
     escaped-requires
     (λ c n. c .escaped .ensures n)
+    skipped-requires
+    (λ c n. c .skipped .ensures n _)
     (λ c n. absurd (n refl)))

@@ -2,6 +2,7 @@
 use Prim.Native.Nat.{_+_, _-_, _≤_}
 use native.Mathlib.Omega.{arith}
 use mathlib.Core.Path.{_≡_, refl}
+use borrow.Author.Needs.{needs}
 use Rattle.string_turn.specs.Kinds.{backtick}
 use Rattle.string_turn.specs.Passing.{Passes, none, then}
 use Rattle.string_turn.proofs.take.Passing.{passes-low}
@@ -14,21 +15,43 @@ Inv-loop text most here₀ left₀ here left = Passes text backtick here₀ here
 abbrev μ-loop : tie.MeasureT-loop
 μ-loop text most here₀ left₀ here left = left
 
--- behind one more
-module _ (k : tie.After-pass-one Inv-loop μ-loop) where
+-- behind those that are only added
+module _ (k : tie.After-pass-added Inv-loop μ-loop) where
   abbrev top : tie.At-loop Inv-loop μ-loop
-  top = k .before .before
+  top = k .before
 
-  low : top .loop .here .at ≤ k .pass-one .result .at
-  low = passes-low (k .pass-one .ensures .0)
+  low : top .loop .here .at ≤ k .pass-added .result .at
+  low = passes-low (k .pass-added .ensures .0)
 
-  fits : k .pass-one .result .at ≤ top .loop .here .at + top .loop .left
-  fits = k .pass-one .ensures .1
+  fits : k .pass-added .result .at ≤ top .loop .here .at + top .loop .left
+  fits = k .pass-added .ensures .1
 
--- behind the test whether it passed anything
-module _ (c : tie.Else1 Inv-loop μ-loop) where
-  abbrev called : tie.After-pass-one Inv-loop μ-loop
-  called = c .before .before .before
+-- behind the stretch that follows them
+module _ (k : tie.After-stretch Inv-loop μ-loop) where
+  abbrev some : tie.Else1 Inv-loop μ-loop
+  some = k .before .before .before
+
+  abbrev called : tie.After-pass-added Inv-loop μ-loop
+  called = some .before .before .before
+
+  next-low : called .pass-added .result .at ≤ k .stretch .result .at
+  next-low = passes-low (k .stretch .ensures .0)
+
+  next-fits : k .stretch .result .at ≤ called .pass-added .result .at + (top called .loop .left - (called .pass-added .result .at - top called .loop .here .at))
+  next-fits = k .stretch .ensures .1
+
+loop-less : tie.Need-loop-less Inv-loop μ-loop
+loop-less c =
+    let k = c .before .before in
+    let a = called k in
+    omega (arith, low a, fits a, some k .if1 .left)
+
+loop-again : tie.Need-loop-again Inv-loop μ-loop
+loop-again c =
+    let k = c .before .before in
+    let a = called k in
+    let i = top a .loop .inv in
+    (then (then (i .0) (a .pass-added .ensures .0)) (k .stretch .ensures .0), omega (arith, i .1, low a, fits a, next-low k, next-fits k))
 
 pub pass-on-spec : {M : Type 1} → statement M
 pass-on-spec =
@@ -37,10 +60,12 @@ pass-on-spec =
     Inv-loop
     μ-loop
     (λ c. (none, refl))
-    (λ c κs. c .loop-test .taken)
-    (λ c. low (c .before .before))
-    (λ c. let k = c .before .before .before in let i = top k .loop .inv in (then (i .0) (k .pass-one .ensures .0), omega (arith, i .1, fits k)))
-    (λ c. let k = called c in omega (arith, low k, fits k))
-    (λ c. let k = called c in omega (arith, low k, fits k, c .if1 .left))
-    (λ c. let k = called c in (then (top k .loop .inv .0) (k .pass-one .ensures .0), omega (arith, top k .loop .inv .1, low k, fits k)))
-    (λ c. let i = c .before .loop .inv in (i .0, omega (arith, i .1))))
+    (λ c κs. search needs)
+    (λ c. let k = c .before .before .before in let i = top k .loop .inv in (then (i .0) (k .pass-added .ensures .0), omega (arith, i .1, fits k)))
+    (λ c. low (c .before .before .before .before .before))
+    (λ c. let k = c .before .before .before .before .before in omega (arith, low k, fits k))
+    (λ c κs. search needs)
+    (λ c. next-low (c .before .before))
+    (λ c. let k = c .before .before in omega (arith, next-low k, next-fits k))
+    loop-less
+    loop-again)

@@ -1,5 +1,4 @@
--- Nothing is passed, or one character and the stretch behind it: proofs/Passing.antt.
-use Prim.Native.Nat.{_-_}
+-- Nothing is passed, or one character: proofs/Passing.antt.
 use native.Mathlib.Omega.{arith}
 use borrow.Author.Needs.{needs}
 use Rattle.string_turn.specs.Passing.{none}
@@ -9,16 +8,11 @@ use Rattle.string_turn.proofs.take.pass_one.Tie as tie
 
 returns-2 : tie.Need-returns-2
 returns-2 c =
-    let column = c .before .before in
-    let behind = column .before in
-    let call = behind .before .before in
-    let test = call .before in
+    let behind = c .before .before in
+    let test = behind .before .before in
     let asked = test .before in
     let inside = asked .before .before in
-    let begin = inside .before .before in (
-      one-passed _ _ (omega (arith, inside .if1 .left)) (asked .is-added .ensures) (test .if2 .taken) (call .pass .ensures .0) (behind .place-behind .ensures) (column .advanced-by .ensures) (c .before .advanced .ensures) (c .or-else .ensures),
-      omega (arith, call .pass .ensures .1, begin .pre),
-    )
+    (one-passed _ _ (omega (arith, inside .if1 .left)) (asked .is-added .ensures) (test .if2 .taken) (behind .place-behind .ensures) (c .before .advanced .ensures) (c .or-else .ensures), omega arith)
 
 pub pass-one-spec : {M : Type 1} → statement M
 pass-one-spec =
@@ -28,9 +22,6 @@ pass-one-spec =
     (λ c. search needs)
     (λ c. omega (arith, c .shared-slice-known2 .given (c .before .before .before .args .from .at)))
     (λ c. search needs)
-    (λ c κs. search needs)
-    (λ c. search needs)
-    (λ c κs. search needs)
     (λ c κs. search needs)
     (λ c κs. search needs)
     (λ c κs. search needs)
