@@ -1,4 +1,4 @@
-//! Tells the program what there is to time. The archives are linked by `compare` and `stew`.
+//! Tells the program what there is to time. The archives are linked by `compare` and `stewsatchel`.
 
 use std::env;
 

@@ -1,8 +1,8 @@
 //! Links the proved static libraries, and tells the program what there is to compare.
 //!
 //! They are those that the file `archives` lists, in the folder that `STEW_ARCHIVES` names, else in
-//! the one that `rt staticlib` writes to. They are linked only if all of them are there, and `stew`
-//! links one of them itself.
+//! the one that `rt staticlib` writes to. They are linked only if all of them are there. One of
+//! them is linked by `stewsatchel`, which is not built without it.
 
 use std::env;
 use std::path::{Path, PathBuf};
@@ -21,24 +21,23 @@ fn main() {
         println!("cargo:rustc-cfg=rhai_source");
     }
 
-    // Said by the build script of `stew`.
+    // Said by the build script of `stewsatchel`.
     let linked = env::var("DEP_STEW_LINKED").unwrap_or_default();
-    let mut missing = env::var("DEP_STEW_MISSING").unwrap_or_default();
 
     let folder = folder();
     let is_ours = |name: &&str| !linked.split(' ').any(|linked| linked == *name);
     let archives: Vec<&str> = ARCHIVES.lines().filter(is_ours).collect();
-    for name in &archives {
-        if is_missing(&folder, name) {
-            missing = format!("{} {}", missing, name);
-        }
-    }
+    let missing: Vec<&str> = archives
+        .iter()
+        .copied()
+        .filter(|name| is_missing(&folder, name))
+        .collect();
     if missing.is_empty() {
         link(&folder, &archives);
         println!("cargo:rustc-cfg=stew_archive");
     }
-    println!("cargo:missing={}", missing.trim());
-    println!("cargo:rustc-env=STEW_MISSING={}", missing.trim());
+    println!("cargo:missing={}", missing.join(" "));
+    println!("cargo:rustc-env=STEW_MISSING={}", missing.join(" "));
 }
 
 fn folder() -> PathBuf {

@@ -5,6 +5,7 @@ use crate::timing::{best, Effort};
 use compare::book::Book;
 use oracle::{speed, words};
 use std::str;
+use stewsatchel::lent::c;
 
 /// How many bytes an entry has.
 pub const ENTRY: usize = 20;
@@ -31,7 +32,7 @@ impl Lent {
 
     pub fn ours(&mut self, script: &[u8], book: &[u8]) -> u32 {
         let (literals, entries) = (&mut self.literals, &mut self.entries);
-        stew::c::run(script, book, 0, literals, entries, &mut self.answer)
+        c::run(script, book, 0, literals, entries, &mut self.answer)
     }
 
     pub fn plain(&mut self, script: &[u8]) -> u32 {

@@ -8,6 +8,7 @@ use crate::report::Table;
 use crate::timing::best;
 use oracle::speed::kept;
 use std::str;
+use stewsatchel::lent::c;
 
 const SIZES: [usize; 3] = [1 << 10, 1 << 16, 1 << 20];
 
@@ -59,5 +60,5 @@ fn timed(asked: &Asked, text: &[u8]) -> [f64; 2] {
 }
 
 fn ours(text: &[u8]) -> u32 {
-    stew::c::run(text, &[], 0, &mut [], &mut [], &mut [0; 28])
+    c::run(text, &[], 0, &mut [], &mut [], &mut [0; 28])
 }

@@ -5,6 +5,7 @@ use crate::report::Table;
 use crate::timing::best;
 use oracle::speed::kept;
 use std::str;
+use stewsatchel::lent::c;
 
 const SIZES: [usize; 4] = [1 << 6, 1 << 10, 1 << 16, 1 << 20];
 
@@ -48,7 +49,7 @@ pub fn table(asked: &Asked) -> Result<Table, String> {
 }
 
 fn check(body: &[u8], lent: &mut Lent, other: &mut [u8]) -> Result<(), String> {
-    let number = stew::c::raw_write(body, &mut lent.out, &mut lent.answer);
+    let number = c::raw_write(body, &mut lent.out, &mut lent.answer);
     let length = u32::from_le_bytes(lent.answer) as usize;
     match write(body, other) {
         Ok(written) if number == 0 && lent.out[..length] == other[..written] => Ok(()),
@@ -60,7 +61,7 @@ fn timed(asked: &Asked, body: &[u8], lent: &mut Lent, other: &mut [u8]) -> [f64;
     best(asked.effort(body.len()), &mut |side, times| {
         for _ in 0..times {
             match side {
-                0 => drop(stew::c::raw_write(body, &mut lent.out, &mut lent.answer)),
+                0 => drop(c::raw_write(body, &mut lent.out, &mut lent.answer)),
                 _ => {
                     kept(body);
                     kept(&write(body, other));

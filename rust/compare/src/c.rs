@@ -1,4 +1,4 @@
-//! The C names of the proved library. The two for the compile tool are those of `stew`.
+//! The C names of the proved library. The two for the compile tool are those of `stewsatchel`.
 //!
 //! A slice crosses as a pointer and a length: `&[u8]` is `*const u8, usize` here, `&mut [u8]` is
 //! `*mut u8, usize`, each pair where the slice stands among the parameters. Numbers and truth
@@ -11,7 +11,7 @@ use crate::place::Place;
 use crate::start::Start;
 use oracle::reading::Scanner;
 
-pub use stew::c::{raw_write, run};
+pub use stewsatchel::lent::c::{raw_write, run};
 
 extern "C" {
     fn stew_place(line: u16, column: u16, answer: *mut u8, answer_room: usize) -> u32;

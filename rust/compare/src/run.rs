@@ -9,7 +9,7 @@ use crate::size::Size;
 use crate::start::{LONGEST, TEXTS};
 use crate::texts::{each_edit, each_text};
 use oracle::script::{Bounds, Script};
-use stew::ENTRY;
+use stewsatchel::lent::ENTRY;
 
 /// What a run tells apart.
 const TOGETHER: [char; 14] = [

@@ -7,7 +7,7 @@ use crate::lent::{Bytes, Lent, Numbers};
 use crate::report::{Case, Report, Why};
 use oracle::script::{Bounds, Ending, Entry, Left, Part, Script};
 use std::fmt;
-use stew::ENTRY;
+use stewsatchel::lent::{self, ENTRY};
 
 /// How many bytes the answer takes.
 pub const ANSWER: usize = 28;
@@ -235,14 +235,14 @@ impl<'r> Runs<'r> {
     pub fn whole(&mut self, text: &[u8], book: &[u8]) {
         let whole = &Whole::new(text, book);
         self.cut(whole, whole.bounds);
-        self.through_stew(whole);
+        self.through_rust(whole);
     }
 
     /// Tokens with the names of their kinds, the literals' bytes, and the ending.
-    fn through_stew(&mut self, whole: &Whole) {
+    fn through_rust(&mut self, whole: &Whole) {
         let mut literals = vec![0; whole.bounds.literals];
         let mut entries = vec![0; ENTRY * whole.bounds.entries];
-        let run = stew::run(whole.text, whole.book, 0, &mut literals, &mut entries);
+        let run = lent::run(whole.text, whole.book, 0, &mut literals, &mut entries);
         let ours = run.tokens().map(|token| {
             let place = (token.place.line, token.place.column);
             (format!("{:?}", token.kind), place, token.part)
@@ -254,7 +254,7 @@ impl<'r> Runs<'r> {
             (kind, entry.place, offset..offset + length)
         });
         self.report.compare(Case {
-            name: "run, through stew",
+            name: "run, through lent",
             text: whole.text,
             given: (),
             rust: Some((rust.collect(), &left.literals[..], left.ending)),
@@ -265,10 +265,10 @@ impl<'r> Runs<'r> {
 }
 
 /// A run's ending as the oracle has it.
-fn ending_of(run: &stew::Run) -> Ending {
+fn ending_of(run: &lent::Run) -> Ending {
     let (number, place, part) = match &run.ending {
-        stew::Ending::End(place) => (0, place, None),
-        stew::Ending::Stop(fault) => (fault.number, &fault.place, fault.part.clone()),
+        lent::Ending::End(place) => (0, place, None),
+        lent::Ending::Stop(fault) => (fault.number, &fault.place, fault.part.clone()),
     };
     let part = part.unwrap_or(0..0);
     Ending {

@@ -1,8 +1,7 @@
-//! The proved tokenizer for Rust programs: the run over a script, and the raw writer.
+//! The run over a script and the raw writer, in memory that the caller lends.
 //!
-//! Everything is lent by the caller, and nothing is kept. Where the archives of the proved library
-//! were not found, this crate is empty (see `build.rs`).
-#![cfg(stew_archive)]
+//! Nothing is kept and nothing grows: where the memory is too small, the answer is 9 or 10, and it
+//! is the caller who looks at the ending. `Script::read` does both.
 
 pub mod c;
 

@@ -1,7 +1,6 @@
-//! The two names as a Rust program uses them, on examples of the requirements.
-#![cfg(stew_archive)]
+//! The two names on memory that is lent, on examples of the requirements.
 
-use stew::{raw_write, run, Ending, Fault, Kind, Place, ENTRY};
+use stewsatchel::lent::{raw_write, run, Ending, Fault, Kind, Place, ENTRY};
 
 /// A book without a word.
 const EMPTY: &[u8] = &[0, 0];
