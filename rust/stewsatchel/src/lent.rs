@@ -1,46 +1,20 @@
 //! The run over a script and the raw writer, in memory that the caller lends.
 //!
 //! Nothing is kept and nothing grows: where the memory is too small, the answer is 9 or 10, and it
-//! is the caller who looks at the ending. `Script::read` does both.
+//! is the caller who looks at the ending. [`Script::read`](crate::Script::read) does both.
 
 pub mod c;
+
+pub use crate::kind::Kind;
+pub use crate::place::Place;
 
 use std::ops::Range;
 
 /// How many bytes of `entries` a token takes.
 pub const ENTRY: usize = 20;
 
-/// Column 0 is before a line's first character.
-#[derive(Debug, Clone, Copy, PartialEq, Eq)]
-pub struct Place {
-    pub line: u16,
-    pub column: u16,
-}
-
-#[derive(Debug, Clone, Copy, PartialEq, Eq)]
-pub enum Kind {
-    Name,
-    Keyword,
-    Symbol,
-    Number,
-    String,
-    /// A piece of text that `${` ends.
-    Interpolated,
-    /// A piece of text that its backtick ends.
-    Text,
-    Raw,
-    Char,
-    Comment,
-    Reserved,
-}
-
-use Kind::*;
-
-/// By their numbers, from 1 on.
-#[rustfmt::skip]
-const KINDS: [Kind; 11] = [
-    Name, Keyword, Symbol, Number, String, Interpolated, Text, Raw, Char, Comment, Reserved,
-];
+/// How many bytes a run's answer takes: seven numbers.
+pub const ANSWER: usize = 28;
 
 #[derive(Debug, Clone, PartialEq, Eq)]
 pub struct Token {
@@ -48,6 +22,22 @@ pub struct Token {
     pub place: Place,
     /// Its bytes: among the run's literals where it is one, else in the script.
     pub part: Range<usize>,
+}
+
+impl Token {
+    /// The token that an entry tells.
+    ///
+    /// # Panics
+    ///
+    /// Where the entry is shorter than one, or names no kind. A run writes none such.
+    pub(crate) fn of(entry: &[u8]) -> Self {
+        let [kind, line, column, offset, length] = numbers(entry);
+        Self {
+            kind: Kind::from_number(kind).expect("a run lists tokens of known kinds"),
+            place: place(line, column),
+            part: range(offset, length),
+        }
+    }
 }
 
 #[derive(Debug, Clone, PartialEq, Eq)]
@@ -77,22 +67,15 @@ pub struct Run<'a> {
 impl<'a> Run<'a> {
     /// The tokens before the ending.
     pub fn tokens(&self) -> impl ExactSizeIterator<Item = Token> + 'a {
-        self.entries.chunks_exact(ENTRY).map(|entry| {
-            let [kind, line, column, offset, length] = numbers(entry);
-            Token {
-                kind: KINDS[kind as usize - 1],
-                place: place(line, column),
-                part: range(offset, length),
-            }
-        })
+        self.entries.chunks_exact(ENTRY).map(Token::of)
     }
 
     /// A token's bytes, of a run over this script.
     pub fn bytes(&self, token: &Token, script: &'a [u8]) -> &'a [u8] {
         let part = token.part.clone();
-        match token.kind {
-            String | Interpolated | Text | Raw | Char => &self.literals[part],
-            _ => &script[part],
+        match token.kind.is_literal() {
+            true => &self.literals[part],
+            false => &script[part],
         }
     }
 }
@@ -105,7 +88,7 @@ pub fn run<'a>(
     literals: &'a mut [u8],
     entries: &'a mut [u8],
 ) -> Run<'a> {
-    let mut answer = [0; 28];
+    let mut answer = [0; ANSWER];
     c::run(script, book, limit, literals, entries, &mut answer);
     let [number, line, column, listed, used, offset, length] = numbers(&answer);
     let place = place(line, column);
