@@ -39,7 +39,7 @@ fn of_lines(text: &str) -> Result<Book, (Option<usize>, String)> {
     Book::new(words).map_err(|error| (at(&error), error.to_string()))
 }
 
-fn word(line: &str) -> Result<Word, String> {
+fn word(line: &str) -> Result<Word<'_>, String> {
     let mut parts = line.split_whitespace();
     let text = parts.next().unwrap_or_default();
     let (a, b) = match parts.next() {

@@ -383,8 +383,8 @@ impl Marked {
                 '⟧' => drop(begun.pop()),
                 '¦' => is_closed = true,
                 ch => {
-                    let inner = begun.iter().rev().filter(|&&at| at < script.len());
-                    let cut = inner.skip(usize::from(is_closed)).next();
+                    let mut inner = begun.iter().rev().filter(|&&at| at < script.len());
+                    let cut = inner.nth(usize::from(is_closed));
                     open.resize(script.len() + ch.len_utf8(), cut.copied());
                     is_closed = false;
                     script.push(ch);

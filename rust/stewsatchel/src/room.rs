@@ -43,7 +43,7 @@ impl Room {
             },
             _ => self,
         };
-        (grown != self).then(|| grown)
+        (grown != self).then_some(grown)
     }
 }
 

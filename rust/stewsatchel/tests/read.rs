@@ -72,7 +72,8 @@ fn memory_grows_with_the_script() {
 
 #[test]
 fn a_stop_tells_its_number_its_place_and_its_part() {
-    let stops: [(&[u8], u32, &str, Option<&[u8]>); 9] = [
+    type Stop<'a> = (&'a [u8], u32, &'a str, Option<&'a [u8]>);
+    let stops: [Stop; 9] = [
         (b"\x80", 1, "1", None),
         (b"a \"b", 4, "1:3", None),
         (b"a ~", 5, "1:3", Some(b"~")),
@@ -139,7 +140,8 @@ fn a_book_is_laid_out_in_order_with_its_flags() {
 
 #[test]
 fn a_refused_book_says_which_word_and_why() {
-    let refused: [(&[&str], Option<(usize, &str)>, BookFault); 4] = [
+    type Refused<'a> = (&'a [&'a str], Option<(usize, &'a str)>, BookFault);
+    let refused: [Refused; 4] = [
         (&["b", ""], Some((1, "")), BookFault::EmptyWord),
         (&["caf\u{e9}"], Some((0, "caf\u{e9}")), BookFault::NotAscii),
         (&["b", "a", "b"], Some((2, "b")), BookFault::Twice),
