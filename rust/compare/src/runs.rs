@@ -7,7 +7,8 @@ use crate::lent::{Bytes, Lent, Numbers};
 use crate::report::{Case, Report, Why};
 use oracle::script::{Bounds, Ending, Entry, Left, Part, Script};
 use std::fmt;
-use stewsatchel::lent::{self, ENTRY};
+use stewsatchel::lent::ENTRY;
+use stewsatchel::{Book, Limits, Stopped, Tokens};
 
 /// How many bytes the answer takes.
 pub const ANSWER: usize = 28;
@@ -238,37 +239,47 @@ impl<'r> Runs<'r> {
         self.through_rust(whole);
     }
 
-    /// Tokens with the names of their kinds, the literals' bytes, and the ending.
+    /// Tokens with the names of their kinds and their bytes, and the ending, in memory that grows.
     fn through_rust(&mut self, whole: &Whole) {
-        let mut literals = vec![0; whole.bounds.literals];
-        let mut entries = vec![0; ENTRY * whole.bounds.entries];
-        let run = lent::run(whole.text, whole.book, 0, &mut literals, &mut entries);
-        let ours = run.tokens().map(|token| {
+        let book = Book::from_bytes(whole.book).expect("a whole script has a good book");
+        let read = stewsatchel::Script::read(whole.text, &book, &Limits::NONE);
+        let tokens = match &read {
+            Ok(tokens) => tokens.iter(),
+            Err(stopped) => stopped.tokens_before(),
+        };
+        let ours = tokens.map(|token| {
             let place = (token.place.line, token.place.column);
-            (format!("{:?}", token.kind), place, token.part)
+            (format!("{:?}", token.kind), place, token.bytes)
         });
         let left = &whole.left;
         let rust = left.entries.iter().map(|entry| {
             let Part { offset, length } = entry.part;
+            let bytes = match entry.kind as u32 {
+                5..=9 => &left.literals[..],
+                _ => whole.text,
+            };
             let kind = format!("{:?}", entry.kind);
-            (kind, entry.place, offset..offset + length)
+            (kind, entry.place, &bytes[offset..offset + length])
         });
         self.report.compare(Case {
-            name: "run, through lent",
+            name: "run, through Rust",
             text: whole.text,
             given: (),
-            rust: Some((rust.collect(), &left.literals[..], left.ending)),
+            rust: Some((rust.collect(), left.ending)),
             explained: None,
-            ours: (ours.collect::<Vec<_>>(), run.literals, ending_of(&run)),
+            ours: (ours.collect::<Vec<_>>(), ending_of(&read)),
         });
     }
 }
 
-/// A run's ending as the oracle has it.
-fn ending_of(run: &lent::Run) -> Ending {
-    let (number, place, part) = match &run.ending {
-        lent::Ending::End(place) => (0, place, None),
-        lent::Ending::Stop(fault) => (fault.number, &fault.place, fault.part.clone()),
+/// The ending of what was read, as the oracle has it.
+fn ending_of(read: &Result<Tokens, Stopped>) -> Ending {
+    let (number, place, part) = match read {
+        Ok(tokens) => (0, tokens.end(), None),
+        Err(stopped) => {
+            let part = stopped.fault().part.clone();
+            (stopped.number(), stopped.place(), part)
+        }
     };
     let part = part.unwrap_or(0..0);
     Ending {
