@@ -5,34 +5,42 @@ use std::path::PathBuf;
 use stewsatchel::Limits;
 
 pub const HELP: &str = "\
-stewsatchel-check: says of each script whether it is whole, and if not, where it stops and why.
+stewsatchel-check: says of each script whether it is whole, and if not, where
+it stops and why.
 
     stewsatchel-check [--book FILE] [--limit BYTES] [--tokens | --json] PATH..
     stewsatchel-check --wrap-remark <REMARK
 
 A PATH is a script, or a folder: every *.rhai below it is a script.
 
-    --book FILE     the words that are reserved: one on a line, its flags (a, b or ab) behind it if it has
-                    some. An empty line, and one that begins with //, is none. Or a book in its binary form.
-    --limit BYTES   the most bytes of a literal; 0, which is no limit, where nothing is said
-    --tokens        lists the tokens of each script, as the listing program does; reports go to standard error
+    --book FILE     the words that are reserved: one on a line, its flags
+                    (a, b or ab) behind it if it has some. An empty line, and
+                    one that begins with //, is none. Or a binary book.
+    --limit BYTES   the most bytes of a literal; 0, as without it, is no limit
+    --tokens        lists the tokens of each script, as the listing program
+                    does; reports go to standard error
     --json          one JSON object on a line for each script (see below)
-    --wrap-remark   prints the raw literal of the remark on standard input. A line feed that ends it is not
-                    part of it.
+    --wrap-remark   prints the raw literal of the remark on standard input.
+                    A line feed that ends the remark is not part of it.
     --              what follows is a PATH
     --help, --version
 
-A report has the file, the line and the column of the stop, counted in characters; the number and the reason
-of the stop; and the lines of the script where it stops (^) and where what is still open begins (-).
+A report has the file, the line and the column of the stop, counted in
+characters; the number and the reason of the stop; and the lines of the script
+where it stops (^) and where what is still open begins (-), for a terminal of
+COLUMNS columns (80).
 
-The status is 0 if every script is whole, 1 if one stopped, and 2 if something could not be read or was asked
-for wrongly, whatever else was met. A folder without a script is not read.
+The status is 0 if every script is whole, 1 if one stopped, and 2 if something
+could not be read or was asked for wrongly, whatever else was met. A folder
+without a script could not be read.
 
-An object of --json has \"file\", \"bytes\", \"tokens\" (how many), and one of these, the others being null:
+An object of --json has \"file\", \"bytes\", \"tokens\" (how many), and one of
+these, the others being null:
     \"end\"     \"line\", \"column\"
-    \"stop\"    \"number\", \"line\", \"column\", \"message\"; \"offset\" in bytes, or null; and \"opened\", null or what
-              is still open: \"what\", \"offset\", and the \"line\" and \"column\" of the file, from 1 on
-    \"error\"   why the script could not be read; its \"bytes\" and \"tokens\" are null
+    \"stop\"    \"number\", \"line\", \"column\", \"message\"; \"offset\" in bytes, or
+              null; \"opened\", null or what is not closed: \"what\", \"offset\",
+              and the \"line\" and \"column\" of the file, from 1 on
+    \"error\"   why it could not be read; \"bytes\" and \"tokens\" are null then
 ";
 
 #[derive(Debug, Clone, PartialEq, Eq)]

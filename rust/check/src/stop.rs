@@ -243,12 +243,60 @@ fn shortened(part: &str) -> String {
     }
 }
 
-/// A character in a sentence. One that may not be seen, or look like another, comes with its number.
+/// A character in a sentence. One that may not be seen, or look like another, has its number.
 fn character(part: &str) -> String {
     match part.chars().next() {
         Some(ch) if ch.is_ascii_graphic() => ch.into(),
         Some(ch) if width(ch) == 0 => format!("U+{:04X}", u32::from(ch)),
         Some(ch) => format!("{} (U+{:04X})", harmless(part), u32::from(ch)),
         None => String::new(),
+    }
+}
+
+#[cfg(test)]
+mod tests {
+    use super::*;
+    use stewsatchel::{Book, Limits, Script};
+
+    const SCRIPT: &str = "let a = #\"b\"c\"# + `d${ if e { \"f\\n\" } else { 'g' } }h${#{i: 1}}`;
+/* j /* k */ */ // é l
+\"m\\\n n\" + `o``p\n q${`r`}`";
+
+    /// What the run does not count as a column or as a line.
+    fn is_counted(script: &str) -> bool {
+        !["\\$", "\"\n", "#\n"]
+            .iter()
+            .any(|&part| script.contains(part))
+    }
+
+    /// The run tells the place of a stop, and no offset. What the walk finds is that place.
+    #[test]
+    fn the_offset_that_is_found_is_the_place_that_the_run_tells() {
+        let mut stops = [0; 16];
+        let limits = [0, 2].map(|most| Limits::NONE.string_bytes(most));
+        for (at, ch) in SCRIPT.char_indices() {
+            let (front, back) = SCRIPT.split_at(at);
+            for put in "\"'`#{}\\\n/*$~_1a é".chars().map(String::from) {
+                for (back, limits) in [(back, &limits[0]), (&back[ch.len_utf8()..], &limits[1])] {
+                    let script = [front, &put, back].concat();
+                    let read = Script::read(&script, &Book::empty(), limits);
+                    let stop = match read {
+                        Err(stopped) if is_counted(&script) => {
+                            Stop::of(script.as_bytes(), &stopped)
+                        }
+                        _ => continue,
+                    };
+                    let offset = stop.offset.expect("a script that is read has a place");
+                    let line = Line::at(&script, offset);
+                    let found = (line.number, line.column(&script, offset));
+                    let told = (stop.place.line.into(), stop.place.column.max(1).into());
+                    assert_eq!(found, told, "{:?} in {}", stop, script);
+                    stops[stop.number as usize] += 1;
+                }
+            }
+        }
+        for number in [4, 5, 6, 7, 8, 11, 12] {
+            assert!(stops[number] > 0, "{:?}", stops);
+        }
     }
 }

@@ -1,7 +1,7 @@
 //! The characters that a terminal shows in no column or in two, as ranges in rising order. They are
 //! those of Unicode 14; a range may run on over code points that are not assigned.
 
-/// Marks that stand on the character before them (Mn, Me), format characters (Cf) without those that
+/// Marks that stand on the character before them (Mn, Me), format characters (Cf) but for those that
 /// are shown, and the vowels and finals of Hangul.
 #[rustfmt::skip]
 pub const NONE: [(char, char); 312] = [

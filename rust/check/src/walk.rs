@@ -1,8 +1,8 @@
 //! Where the token begins that a run did not list.
 //!
 //! A run lists a literal with its body, not with its part of the script. So the way from one listed
-//! token to the next is walked over the script: past white space, and past literals, which are known
-//! to be good.
+//! token to the next is walked over the script: past white space, and past literals, which are
+//! known to be good.
 
 use stewsatchel::{Kind, Token};
 
