@@ -18,13 +18,13 @@ pub(crate) struct Room {
 }
 
 impl Room {
-    /// Enough for most scripts of so many bytes: half of it literals, a token for every four bytes.
+    /// Enough for most scripts of so many bytes: half of it literals, a token for every two bytes.
     /// A script that is too long is refused unread, and needs nothing.
     pub fn guess(length: usize) -> Self {
         let length = if length > LONGEST { 0 } else { length };
         Self {
             literals: (length / 2 + 32).min(4 * length),
-            entries: (length / 4 + 8).min(length),
+            entries: (length / 2 + 8).min(length),
             length,
         }
     }
@@ -64,7 +64,7 @@ mod tests {
         for length in [0, 1, 7, 64, 1_000, LONGEST] {
             let (room, times) = grown(Room::guess(length), Refusal::NoTokenRoom);
             assert_eq!(room.entries, length);
-            assert!(times <= 2);
+            assert!(times <= 1);
             let (room, times) = grown(Room::guess(length), Refusal::NoLiteralRoom);
             assert_eq!(room.literals, 4 * length);
             assert!(times <= 3);
