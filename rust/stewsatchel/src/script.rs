@@ -53,8 +53,10 @@ fn run<'a>(script: &'a [u8], book: &Book, limits: &Limits, room: Room) -> (List<
     let run = lent::run(script, book, limit, &mut literals, &mut entries);
     let (used, listed) = (run.literals.len(), run.tokens().len());
     let ending = run.ending;
-    literals.truncate(used);
-    entries.truncate(ENTRY * listed);
+    for (memory, used) in [(&mut literals, used), (&mut entries, ENTRY * listed)] {
+        memory.truncate(used);
+        memory.shrink_to_fit();
+    }
     let list = List {
         script,
         literals,

@@ -6,9 +6,9 @@ use crate::room::LONGEST;
 
 /// Writes the raw literal of a body: a script that has it reads the body back, byte for byte.
 ///
-/// It has the least number of hashes that does not close it early, and one at least. The whole
-/// literal is always answered; a body that is too long for one is [`Refusal::TooLong`], and one
-/// that is not UTF-8 is [`Refusal::NotUtf8`].
+/// It has the least number of hashes that does not close it early, and one at least. A body of more
+/// than [`LONGEST`] bytes is [`Refusal::TooLong`], and one that is not UTF-8 is
+/// [`Refusal::NotUtf8`]. The literal of a long body may be longer than a script is.
 ///
 /// # Panics
 ///
