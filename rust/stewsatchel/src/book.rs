@@ -73,7 +73,9 @@ impl Book {
         let bytes = bytes.into();
         match is_good(&bytes) {
             true => Ok(Self { bytes }),
-            false => Err(error_of(&bytes).unwrap_or(BookError::whole(BookFault::Refused))),
+            false => Err(held(&bytes)
+                .err()
+                .unwrap_or(BookError::whole(BookFault::Refused))),
         }
     }
 
@@ -114,41 +116,43 @@ fn fault_of(word: &[u8], before: Option<&[u8]>) -> Option<BookFault> {
     }
 }
 
-/// What is wrong with the bytes of a book, the first of it.
-fn error_of(bytes: &[u8]) -> Option<BookError> {
-    let short = Some(BookError::whole(BookFault::Short));
+/// What is wrong with a word's row: its flags, or its offset, which has to be this one.
+fn fault_of_row(row: &[u8], offset: usize) -> Option<BookFault> {
+    let told = u16::from_le_bytes([row[0], row[1]]);
+    match row[3] {
+        4.. => Some(BookFault::Flags),
+        _ if usize::from(told) != offset => Some(BookFault::Offset),
+        _ => None,
+    }
+}
+
+/// Finds the first thing that is wrong with the bytes of a book.
+fn held(bytes: &[u8]) -> Result<(), BookError> {
+    let short = || BookError::whole(BookFault::Short);
     let count = match bytes {
         [low, high, ..] => usize::from(u16::from_le_bytes([*low, *high])),
-        _ => return short,
+        _ => return Err(short()),
     };
     if count > MOST_WORDS {
-        return Some(BookError::whole(BookFault::TooManyWords));
+        return Err(BookError::whole(BookFault::TooManyWords));
     }
-    let (rows, mut bodies) = match bytes.get(COUNT..COUNT + ROW * count) {
-        Some(rows) => (rows, &bytes[COUNT + ROW * count..]),
-        None => return short,
-    };
+    let contents = COUNT..COUNT + ROW * count;
+    let rows = bytes.get(contents.clone()).ok_or_else(short)?;
+    let bodies = &bytes[contents.end..];
     let (mut offset, mut before) = (0, None);
     for (at, row) in rows.chunks_exact(ROW).enumerate() {
-        let length = usize::from(row[2]);
-        if bodies.len() < length {
-            return Some(BookError::word(at, bodies, BookFault::Short));
+        let end = offset + usize::from(row[2]);
+        let cut = || BookError::word(at, &bodies[offset..], BookFault::Short);
+        let word = bodies.get(offset..end).ok_or_else(cut)?;
+        if let Some(fault) = fault_of(word, before).or_else(|| fault_of_row(row, offset)) {
+            return Err(BookError::word(at, word, fault));
         }
-        let (word, rest) = bodies.split_at(length);
-        let fault = match fault_of(word, before) {
-            Some(fault) => fault,
-            None if row[3] > 3 => BookFault::Flags,
-            None if usize::from(u16::from_le_bytes([row[0], row[1]])) != offset => {
-                BookFault::Offset
-            }
-            None => {
-                (offset, before, bodies) = (offset + length, Some(word), rest);
-                continue;
-            }
-        };
-        return Some(BookError::word(at, word, fault));
+        (offset, before) = (end, Some(word));
     }
-    (!bodies.is_empty()).then(|| BookError::whole(BookFault::Over))
+    match offset == bodies.len() {
+        true => Ok(()),
+        false => Err(BookError::whole(BookFault::Over)),
+    }
 }
 
 /// Why a book is refused, and for which of its words. It is refusal 14.
@@ -240,7 +244,7 @@ mod tests {
         let good = good.as_bytes();
         let mut refused = 0;
         let mut hold = |bytes: &[u8]| {
-            assert_eq!(is_good(bytes), error_of(bytes).is_none(), "{:?}", bytes);
+            assert_eq!(is_good(bytes), held(bytes).is_ok(), "{:?}", bytes);
             refused += usize::from(!is_good(bytes));
         };
         for at in 0..good.len() {
