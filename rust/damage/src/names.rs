@@ -1,0 +1,3 @@
+//! The two C names, on slices.
+
+pub use stewsatchel::lent::c::{raw_write, run};
