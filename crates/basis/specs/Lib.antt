@@ -1,3 +1,4 @@
 pub mod Pick
 pub mod Store
 pub mod Words
+pub mod Types

@@ -6,22 +6,23 @@ use mathlib.Core.Path.{_≡_}
 use lib.Dec.{leb}
 use lib.ListN.{length, drop}
 use lib.Seq.{sets}
+use Rattle.basis.specs.Types.{Bytes, Offset}
 use Rattle.basis.specs.Pick.{pick}
 
 -- the bytes xs have room in the memory l from the index i on
-unfoldable pub fits : List ℕ → ℕ → List ℕ → Bool
+unfoldable pub fits : Bytes → Offset → Bytes → Bool
 fits l i xs = leb (i + length xs) (length l)
 
 -- the memory with xs from the index i on, where they have room; else as it was
-unfoldable pub stored : List ℕ → ℕ → List ℕ → List ℕ
+unfoldable pub stored : Bytes → Offset → Bytes → Bytes
 stored l i xs = pick (fits l i xs) (sets l i xs) l
 
 -- the index after them, where they have room; else the index given
-unfoldable pub after : List ℕ → ℕ → List ℕ → ℕ
+unfoldable pub after : Bytes → Offset → Bytes → Offset
 after l i xs = pick (fits l i xs) (i + length xs) i
 
 -- the bytes xs in front, and the old rest behind them
-abbrev pub over : List ℕ → List ℕ → List ℕ
+abbrev pub over : Bytes → Bytes → Bytes
 over xs old = xs ++ drop (length xs) old
 
 -- what is known after a store that had room: in the memory l, the bytes xs, n of them, stand from the index i on; r is the index after them and l′ the memory now

@@ -3,6 +3,7 @@ use Prim.Native.Nat.{ℕ, zero, suc, _+_}
 use mathlib.Core.Bool.{Bool, false}
 use mathlib.Core.List.{List, [], _∷_}
 use lib.Dec.{eqb}
+use Rattle.basis.specs.Types.{Text, Code, Offset}
 use Rattle.utf8.specs.Table.{Ch, charsAt}
 
 -- one turn: with a note for what the turn yields, k more characters than the first are taken and the scan goes on in a state; or it is over with a result
@@ -23,7 +24,7 @@ widths (suc n) [] = 0
 widths (suc n) (c ∷ cs) = c .width + widths n cs
 
 -- the next character is c
-abbrev pub follows : ℕ → List Ch → Bool
+abbrev pub follows : Code → List Ch → Bool
 follows c [] = false
 follows c (d ∷ cs) = eqb (d .code) c
 
@@ -33,13 +34,13 @@ onTurn (go n k s) f g = f n k s
 onTurn (stop r) f g = g r
 
 -- the scan, with k characters still to pass before the next turn
-unfoldable pub run : {S N R : Type 0} → Rule S N R → ℕ → List Ch → ℕ → S → R
+unfoldable pub run : {S N R : Type 0} → Rule S N R → ℕ → List Ch → Offset → S → R
 run rule k [] at s = rule .end at s
 run rule zero (c ∷ cs) at s = onTurn (rule .turn at (c ∷ cs) s) (λ n k s′. rule .note n (run rule k cs (at + c .width) s′)) (λ r. r)
 run rule (suc k) (c ∷ cs) at s = run rule k cs (at + c .width) s
 
 -- the scan of a text from an offset
-unfoldable pub runAt : {S N R : Type 0} → Rule S N R → List ℕ → ℕ → S → R
+unfoldable pub runAt : {S N R : Type 0} → Rule S N R → Text → Offset → S → R
 runAt rule t at s = run rule 0 (charsAt t at) at s
 
 -- one turn of a text at an offset: on to another offset, or over
@@ -48,10 +49,10 @@ pub data Move (S N R : Type 0) : Type 0 where
   over : R → Move S N R
 
 -- the turn of the characters that are left
-abbrev pub moveIn : {S N R : Type 0} → Rule S N R → List Ch → ℕ → S → Move S N R
+abbrev pub moveIn : {S N R : Type 0} → Rule S N R → List Ch → Offset → S → Move S N R
 moveIn rule [] at s = over (rule .end at s)
 moveIn rule (c ∷ cs) at s = onTurn (rule .turn at (c ∷ cs) s) (λ n k s′. on n (at + c .width + widths k cs) s′) (λ r. over r)
 
 -- the turn of a text at an offset
-unfoldable pub moveAt : {S N R : Type 0} → Rule S N R → List ℕ → ℕ → S → Move S N R
+unfoldable pub moveAt : {S N R : Type 0} → Rule S N R → Text → Offset → S → Move S N R
 moveAt rule t at s = moveIn rule (charsAt t at) at s

@@ -57,9 +57,9 @@ fn width(text: &[u8], at: usize, x: u32, stop: usize) -> usize
     w
 }
 
-// Inner: passes the characters above 7F that begin at an offset, up to `stop`; if there is none, and `stop` is the end of the text, then
+// Passes the characters above 7F that begin at an offset, up to `stop`; if there is none, and `stop` is the end of the text, then
 // no character begins there. It has two callers, so that the compiler keeps it apart and the loops of ASCII small.
-pub fn high(text: &[u8], from: usize, stop: usize) -> Passed
+pub(crate) fn high(text: &[u8], from: usize, stop: usize) -> Passed
     requires { ⌜ (from < stop) × (stop ≤ length (now text)) × (0x80 ≤ getD (now text) from 0) ⌝ }
     ensures { λ r. ⌜ Stretch (now (text .entry)) High from (r .count) (r .at) ⌝ }
     ensures { λ r. ⌜ r .at ≤ stop ⌝ }

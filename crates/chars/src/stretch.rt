@@ -4,13 +4,12 @@ ghost use Prim.Native.Nat.{_≤_};
 ghost use lib.ListN.{length};
 ghost use Rattle.position.specs.Place.{advancedBy};
 ghost use Rattle.chars.specs.Cursors.{cursor};
-ghost use Rattle.chars.specs.Ends.{endOf};
+ghost use Rattle.chars.specs.Ends.{stretchEnd};
 ghost use Rattle.chars.specs.Passing.{Ends};
 ghost use Rattle.chars.specs.declared.stretch.Stretch.the-variants.{Word, Line};
 use crate::cursor::Cursor;
 use crate::passing::Passed;
-
-const LF: u32 = 0x0A;
+use classes::marks;
 
 // What goes on: ASCII letters, digits and `_`, or all but LF.
 pub enum Stretch {
@@ -48,7 +47,7 @@ fn line(text: &[u8], from: usize) -> Passed
     while at < text.len() {
         let x = text[at] as u32;
         if x < 0x80 {
-            if x == LF {
+            if x == marks::LF {
                 return Passed { at, count };
             }
             at += 1;
@@ -76,7 +75,7 @@ fn behind(start: Cursor, passed: Passed) -> Cursor
 
 // Behind every character that goes on.
 pub fn end_of(what: Stretch, text: &[u8], start: Cursor) -> Cursor
-    ensures { λ r. ⌜ r ≡ endOf what (now (text .entry)) start ⌝ }
+    ensures { λ r. ⌜ r ≡ stretchEnd what (now (text .entry)) start ⌝ }
     ensures { λ r. ⌜ (start .at ≤ r .at) × (start .at ≤ length (now (text .entry)) → r .at ≤ length (now (text .entry))) ⌝ }
 {
     match what {

@@ -1,4 +1,6 @@
-// Classes of characters: the ASCII classes that the Rust asks for.
+// Classes of characters: the ASCII classes that the Rust asks for; and the characters that the rules of a script name.
+pub mod marks;
+
 ghost use mathlib.Core.Path.{_≡_};
 ghost use Rattle.classes.specs.Class.{isNumericDigit, isIdFirstAlphabetic, isIdContinue, digitOf};
 ghost use Rattle.utf8.specs.Table.{_‥_, within};
@@ -42,7 +44,7 @@ pub fn is_id_continue(c: u32) -> bool
     if is_numeric_digit(c) {
         return true;
     }
-    c == 0x5F
+    c == marks::UNDERSCORE
 }
 
 // The Rust's `to_digit(16)`: the value of a hex digit, and 16 for what is none.

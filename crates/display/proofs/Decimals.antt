@@ -9,7 +9,7 @@ use lib.ListN.{length, getD, length-append, List·getD-append}
 use borrow.Author.Tests.{lt-ltb, le-ltb}
 use Rattle.basis.specs.Words.{word}
 use Rattle.basis.proofs.Bounds.{split}
-use Rattle.display.specs.Decimal.{digit, digits, decimal, spelledAfter, spelled}
+use Rattle.display.specs.Decimal.{digit, digits, decimal, spelledAfter, numberSpelled}
 
 -- more steps than the number says change nothing
 enough : (k m n : ℕ) → n ≤ k → n ≤ m → digits k n ≡ digits m n
@@ -47,10 +47,10 @@ spelled-more v [] d = refl
 spelled-more v (x ∷ xs) d = spelled-more (v * 10 + (x - 48)) xs d
 
 -- the digits spell the number
-pub decimal-spells : (n : ℕ) → spelled (decimal n) ≡ n
-unfolding spelled spelledAfter digit
+pub decimal-spells : (n : ℕ) → numberSpelled (decimal n) ≡ n
+unfolding numberSpelled spelledAfter digit
 decimal-spells =
-    by-tens (λ n. spelled (decimal n) ≡ n)
+    by-tens (λ n. numberSpelled (decimal n) ≡ n)
     (λ n h. rw (decimal-one n h) (omega arith))
     (λ n h e. rw (decimal-more n h, spelled-more 0 (decimal (n / 10)) (digit (n % 10)), e) (omega arith))
 

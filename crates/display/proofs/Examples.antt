@@ -2,8 +2,8 @@
 use mathlib.Core.Path.{_≡_, refl}
 use Rattle.basis.specs.Words.{word}
 use Rattle.position.specs.Place.{none, start, given, lineNumber, columnNumber, isNone, beginsLine}
-use Rattle.places.specs.Coordinates.{numbered, lineOf}
-use Rattle.span.specs.Spans.{newSpan, noSpan, startOf, endOf}
+use Rattle.places.specs.Coordinates.{numbered, lineOption}
+use Rattle.span.specs.Spans.{newSpan, noSpan, spanStart, spanEnd}
 use Rattle.display.specs.Decimal.{digit, digits, decimal}
 use Rattle.display.specs.Forms.{colonOf, longOf, displayOf, debugOf, sameOption, sameLine, apart, dashed, between, spanOf}
 
@@ -33,5 +33,5 @@ spans :
     × (spanOf (newSpan (given 1 9) (given 1 15)) ≡ word "1:9-15")
     × (spanOf (newSpan start start) ≡ word "1:0-0")
 unfolding
-    spanOf between sameLine apart dashed sameOption newSpan noSpan startOf endOf debugOf colonOf lineNumber columnNumber none start given isNone beginsLine numbered lineOf digit digits decimal word
+    spanOf between sameLine apart dashed sameOption newSpan noSpan spanStart spanEnd debugOf colonOf lineNumber columnNumber none start given isNone beginsLine numbered lineOption digit digits decimal word
 spans = (refl, refl, refl, refl, refl, refl, refl)

@@ -10,14 +10,14 @@ use Rattle.basis.specs.Words.{word}
 use Rattle.position.specs.declared.Position.{Position}
 use Rattle.position.specs.Place.{none, isNone, lineNumber}
 use Rattle.position.proofs.Moves.{only-none}
-use Rattle.places.specs.Coordinates.{lineOf}
+use Rattle.places.specs.Coordinates.{lineOption}
 use Rattle.places.proofs.coordinates.Numbers.{line-some}
 use Rattle.span.specs.declared.Span.{Span}
-use Rattle.span.specs.Spans.{startOf, endOf}
+use Rattle.span.specs.Spans.{spanStart, spanEnd}
 use Rattle.display.specs.Forms.{longOf, displayOf, debugOf, sameOption, sameLine, apart, dashed, between, spanOf}
 
 -- of places that are not NONE the numbers tell what the Rust's Options tell
-lines-compared : (a b : Position) {n m : ℕ} → isNone a ≡ false → isNone b ≡ false → n ≡ lineNumber a → m ≡ lineNumber b → sameOption (lineOf a) (lineOf b) ≡ eqb n m
+lines-compared : (a b : Position) {n m : ℕ} → isNone a ≡ false → isNone b ≡ false → n ≡ lineNumber a → m ≡ lineNumber b → sameOption (lineOption a) (lineOption b) ≡ eqb n m
 unfolding sameOption
 lines-compared a b h g e f = rw (e, f, line-some a h, line-some b g)
 
@@ -37,7 +37,7 @@ alone true x y z h = h refl
 alone false x y z h = refl
 
 -- up to NONE a span reads as its start, NONE too
-module _ (s : Span) {a b : Position} (f : a ≡ startOf s) (g : b ≡ endOf s) {y : Bool} (e : y ≡ isNone b) where
+module _ (s : Span) {a b : Position} (f : a ≡ spanStart s) (g : b ≡ spanEnd s) {y : Bool} (e : y ≡ isNone b) where
   pub up-to-none : y ≡ true → spanOf s ≡ debugOf a
   unfolding spanOf between
   up-to-none h = rw (← f, ← g, ← e, h) (alone (isNone a) (debugOf none) _ (debugOf a) (λ z. ap debugOf (sym (only-none a z))))
@@ -54,7 +54,7 @@ module _ (s : Span) {a b : Position} (f : a ≡ startOf s) (g : b ≡ endOf s) {
       unfolding spanOf between
       on-lines = rw (← f, ← g, ← e, h, ← d, z)
 
-      alike : sameOption (lineOf a) (lineOf b) ≡ eqb n m
+      alike : sameOption (lineOption a) (lineOption b) ≡ eqb n m
       alike = lines-compared a b (sym d ∙ z) (sym e ∙ h) l k
 
       pub on-two-lines : (n ≡ m → ⊥) → spanOf s ≡ apart a b

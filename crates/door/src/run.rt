@@ -6,11 +6,9 @@ ghost use Rattle.door.specs.RunDoor.{refusesOf};
 pub fn refuses(script: &[u8], book: &[u8]) -> u8
     ensures { λ r. ⌜ r ≡ refusesOf (now (script .entry)) (now (book .entry)) ⌝ }
 {
-    if 16_777_216 < script.len() {
-        return 2;
+    let number = crate::text(script);
+    if number != 0 {
+        return number;
     }
-    if utf8::formed::check(script) {
-        return book::check(book);
-    }
-    1
+    book::check(book)
 }

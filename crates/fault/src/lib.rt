@@ -1,4 +1,6 @@
 // What is wrong with an input: a refusal's number, the place reported with it, and the part of the script that it is about.
+ghost use mathlib.Core.Path.{_≡_};
+ghost use Rattle.fault.specs.Faults.{fault, faultIn};
 use position::Position;
 
 // A part of the script: where it begins, and how many bytes it has.
@@ -47,4 +49,37 @@ impl Fault {
     pub const TOO_DEEP: u8 = 13;
 
     pub const BAD_BOOK: u8 = 14;
+
+    pub const BAD_SUM: u8 = 15;
+}
+
+impl Fault {
+    // What an answer without a fault tells: number 0, at no place.
+    pub const NONE: Self = Self {
+        number: 0,
+        place: Position::NONE,
+        part: Part::NONE,
+    };
+
+    // A fault at a place, about no part of the script.
+    pub fn at(number: u8, place: Position) -> Fault
+        ensures { λ r. ⌜ r ≡ fault number place ⌝ }
+    {
+        Fault {
+            number,
+            place,
+            part: Part::NONE,
+        }
+    }
+
+    // A fault at a place, about a part of the script.
+    pub fn about(number: u8, place: Position, part: Part) -> Fault
+        ensures { λ r. ⌜ r ≡ faultIn number place part ⌝ }
+    {
+        Fault {
+            number,
+            place,
+            part,
+        }
+    }
 }

@@ -3,3 +3,5 @@ pub mod Limits
 pub mod Within
 pub mod Lands
 pub mod Small
+pub mod Alike
+pub mod Computes

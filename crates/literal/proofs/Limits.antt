@@ -16,10 +16,10 @@ use Rattle.fault.specs.Faults.{stringTooLong, Own}
 use Rattle.fault.specs.declared.Fault.{Fault}
 use Rattle.literal.specs.Trace.{Trace, ends, fails, adds, checks, bytes, final, Outcome, good, bad, passes}
 use Rattle.literal.specs.Cut.{cut, answer}
-use Rattle.literal.specs.Told.{number}
+use Rattle.literal.specs.Told.{refusalNumber}
 use Rattle.literal.specs.Limits.{
   Looser,
-  Sevens,
+  Fair-trace,
   Accepted-whole,
   Uncut-within,
   Recurs-whole,
@@ -93,16 +93,16 @@ looser l m n (inr p) h =
     rw (ne-eqb m 0 (λ e. omega arith), le-ltb m n (omega (arith, ltb-false l n k)))
 
 module _ (full : Refusal) (l m r s : ℕ) (start : Position) (nine : full .fault .number ≡ 9) (loose : Looser l m) (more : r ≤ s) where
-  recurs : (n : ℕ) (t : Trace) → Sevens start t → (number (cut full l r n t) ≡ 7 → ⊥) → (number (cut full l r n t) ≡ 9 → ⊥) → cut full m s n t ≡ cut full l r n t
-  unfolding cut number
+  recurs : (n : ℕ) (t : Trace) → Fair-trace start t → (refusalNumber (cut full l r n t) ≡ 7 → ⊥) → (refusalNumber (cut full l r n t) ≡ 9 → ⊥) → cut full m s n t ≡ cut full l r n t
+  unfolding cut refusalNumber
   recurs n (ends e) sv = λ x y. refl
   recurs n (fails f) sv = λ x y. refl
   recurs n (adds bs t) sv =
-      pick-cases (λ (a : Scanned). (number a ≡ 7 → ⊥) → (number a ≡ 9 → ⊥) → pick (leb (n + length bs) s) (cut full m s (n + length bs) t) (Refused full) ≡ a) (leb (n + length bs) r) _ _
+      pick-cases (λ (a : Scanned). (refusalNumber a ≡ 7 → ⊥) → (refusalNumber a ≡ 9 → ⊥) → pick (leb (n + length bs) s) (cut full m s (n + length bs) t) (Refused full) ≡ a) (leb (n + length bs) r) _ _
       (λ q x y. rw (le-leb (n + length bs) s (omega (arith, leb-true (n + length bs) r q))) (recurs (n + length bs) t sv x y))
       (λ q x y. absurd (y nine))
   recurs n (checks f t) sv =
-      pick-cases (λ (a : Scanned). (number a ≡ 7 → ⊥) → (number a ≡ 9 → ⊥) → pick (passes m n) (Refused f) (cut full m s n t) ≡ a) (passes l n) _ _
+      pick-cases (λ (a : Scanned). (refusalNumber a ≡ 7 → ⊥) → (refusalNumber a ≡ 9 → ⊥) → pick (passes m n) (Refused f) (cut full m s n t) ≡ a) (passes l n) _ _
       (λ q x y. absurd (x (ap (λ (g : Fault). g .number) (sv .0))))
       (λ q x y. rw (looser l m n loose q) (recurs n t (sv .1) x y))
 
@@ -194,7 +194,7 @@ module _ (full : Refusal) (limit room : ℕ) where
   Refused-by start literal-room f = f ≡ full
   Refused-by start token-room f = ⊥
 
-  pub cuts-by : {n : ℕ} {t : Trace} {by : Bound} {f : Refusal} (start : Position) → Sevens start t → Cuts full limit room n t by f → Refused-by start by f
+  pub cuts-by : {n : ℕ} {t : Trace} {by : Bound} {f : Refusal} (start : Position) → Fair-trace start t → Cuts full limit room n t by f → Refused-by start by f
   cuts-by start sv (no-room h) = refl
   cuts-by start sv (too-long h) = sv .0
   cuts-by start sv (goes-on h c) = cuts-by start sv c
@@ -210,7 +210,7 @@ pub cut-decided : (full : Refusal) (limit room : ℕ) (t : Trace) → Cut-or-not
 cut-decided full limit room t = cut-or-not full limit room 0 t
 
 -- ---- a refusal by a rule of its own is neither 7 nor 9 nor 10
-pub own-refusal : (start : Position) (t : Trace) (f : Refusal) → Sevens start t → final t ≡ bad f → Own (f .fault)
+pub own-refusal : (start : Position) (t : Trace) (f : Refusal) → Fair-trace start t → final t ≡ bad f → Own (f .fault)
 unfolding final
 own-refusal start (ends e) f sv h = absurd (let q : _≡_ {A = ℕ} 0 1 = cc in omega arith)
 own-refusal start (fails g) f sv h = let q : g ≡ f = cc in rw (← q) sv
@@ -223,7 +223,7 @@ unfolding answer
 answer-bad n (good e) f h = not-accepted (sym h)
 answer-bad n (bad g) f h = ap bad (refusal-is h)
 
-module _ (full : Refusal) (limit room : ℕ) (start : Position) (t : Trace) (f : Refusal) (nine : full .fault .number ≡ 9) (sv : Sevens start t) (h : cut full limit room 0 t ≡ Refused f) where
+module _ (full : Refusal) (limit room : ℕ) (start : Position) (t : Trace) (f : Refusal) (nine : full .fault .number ≡ 9) (sv : Fair-trace start t) (h : cut full limit room 0 t ≡ Refused f) where
   -- it is cut so, or is refused by a rule of its own
   abbrev Cut-so : Type 0
   Cut-so = ((by : Bound) × Cuts full limit room 0 t by f) ⊎ Own (f .fault)

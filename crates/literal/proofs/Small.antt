@@ -10,12 +10,12 @@ use Rattle.position.proofs.Small.{Small}
 use Rattle.fault.proofs.Small.{Tells, fault-tells}
 use Rattle.literal.specs.Trace.{Trace, ends, fails, adds, checks, Yield, added, tested, yields, final, Outcome, good, bad, passes}
 use Rattle.literal.specs.Cut.{cut}
-use Rattle.literal.specs.Limits.{Sevens}
+use Rattle.literal.specs.Limits.{Fair-trace}
 use Rattle.literal.specs.declared.Refusal.{Refusal}
 use Rattle.literal.specs.declared.Scanned.{Scanned}
 use Rattle.literal.specs.declared.Scanned.the-variants.{Accepted, Refused}
 
--- of a script of n bytes; what a test of the limit tells is `Sevens`
+-- of a script of n bytes; what a test of the limit tells is `Fair-trace`
 module _ (n : ℕ) where
   abbrev pub Traced : Trace → Type 0
   Traced (ends e) = Small (e .cursor .place)
@@ -34,7 +34,7 @@ module _ (n : ℕ) where
   Scanned-tells (Accepted e m) = Unit {0}
   Scanned-tells (Refused f) = Tells n (f .fault)
 
-  pub cut-tells : (full : Refusal) → Tells n (full .fault) → (start : Position) → Small start → (limit room k : ℕ) (t : Trace) → Sevens start t → Traced t → Scanned-tells (cut full limit room k t)
+  pub cut-tells : (full : Refusal) → Tells n (full .fault) → (start : Position) → Small start → (limit room k : ℕ) (t : Trace) → Fair-trace start t → Traced t → Scanned-tells (cut full limit room k t)
   unfolding cut
   cut-tells full h start p limit room k (ends e) sv x = tt
   cut-tells full h start p limit room k (fails f) sv x = x

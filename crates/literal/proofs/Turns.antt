@@ -12,6 +12,7 @@ use Rattle.literal.specs.Trace.{Trace, ends, fails, adds, checks, Yield,
 use Rattle.literal.specs.Cut.{cut, wrote}
 use Rattle.literal.specs.declared.End.{End}
 use Rattle.literal.specs.declared.Refusal.{Refusal}
+use Rattle.literal.specs.declared.Scanned.{Scanned}
 use Rattle.literal.specs.declared.Scanned.the-variants.{Accepted, Refused}
 
 module _ (full : Refusal) (limit room n : ℕ) where
@@ -45,6 +46,11 @@ module _ (full : Refusal) (limit room n : ℕ) where
 pub wrote-accepted : (e : End) (n : ℕ) (t : Trace) (memory : List ℕ) → length (bytes t) ≤ length memory → sets memory 0 (bytes t) ≡ wrote (Accepted e n) t memory
 unfolding wrote
 wrote-accepted e n t memory h = sets-front memory (bytes t) h
+
+-- a refused scan leaves it as it was
+pub wrote-refused : {r : Scanned} {f : Refusal} → r ≡ Refused f → (t : Trace) (memory : List ℕ) → memory ≡ wrote r t memory
+unfolding wrote
+wrote-refused e t memory = rw e
 
 -- the test of the limit, as the code makes it
 module _ (limit n : ℕ) where

@@ -1,8 +1,8 @@
 -- What a limit and a room leave of a reading: document 01, "The bytes one step adds count together: if they pass the buffer's end, 9 comes at once; 7 comes where the Rust checks".
 use Prim.Native.Nat.{ℕ, _+_}
-use mathlib.Core.List.{List}
 use lib.Dec.{leb}
 use lib.ListN.{length}
+use Rattle.basis.specs.Types.{Bytes}
 use Rattle.basis.specs.Pick.{pick}
 use Rattle.basis.specs.Store.{over}
 use Rattle.literal.specs.Trace.{Trace, ends, fails, adds, checks, bytes, passes, Outcome, good, bad}
@@ -18,7 +18,7 @@ cut full limit room n (adds bs t) = pick (leb (n + length bs) room) (cut full li
 cut full limit room n (checks f t) = pick (passes limit n) (Refused f) (cut full limit room n t)
 
 -- the lent memory then: the body and the old rest where the scan was accepted, untouched where it was refused
-unfoldable pub wrote : Scanned → Trace → List ℕ → List ℕ
+unfoldable pub wrote : Scanned → Trace → Bytes → Bytes
 wrote (Accepted e n) t memory = over (bytes t) memory
 wrote (Refused f) t memory = memory
 

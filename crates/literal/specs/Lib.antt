@@ -1,4 +1,5 @@
 pub mod Trace
+pub mod Answers
 pub mod Cut
 pub mod Told
 pub mod Limits

@@ -9,7 +9,7 @@ use Rattle.position.specs.declared.Position.{Position}
 use Rattle.fault.specs.Faults.{stringTooLong, Own}
 use Rattle.literal.specs.Trace.{Trace, ends, fails, adds, checks, bytes, final, good, passes}
 use Rattle.literal.specs.Cut.{cut, answer}
-use Rattle.literal.specs.Told.{number}
+use Rattle.literal.specs.Told.{refusalNumber}
 use Rattle.literal.specs.declared.End.{End}
 use Rattle.literal.specs.declared.Refusal.{Refusal}
 use Rattle.literal.specs.declared.Scanned.the-variants.{Accepted, Refused}
@@ -19,11 +19,11 @@ abbrev pub Looser : ℕ → ℕ → Type 0
 Looser l m = (m ≡ 0) ⊎ ((0 < l) × (l ≤ m))
 
 -- every test of the limit refuses with 7 at the literal's start, and no rule of its own does with 7, 9 or 10
-abbrev pub Sevens : Position → Trace → Type 0
-Sevens start (ends e) = Unit {0}
-Sevens start (fails f) = Own (f .fault)
-Sevens start (adds bs t) = Sevens start t
-Sevens start (checks f t) = (f .fault ≡ stringTooLong start) × Sevens start t
+abbrev pub Fair-trace : Position → Trace → Type 0
+Fair-trace start (ends e) = Unit {0}
+Fair-trace start (fails f) = Own (f .fault)
+Fair-trace start (adds bs t) = Fair-trace start t
+Fair-trace start (checks f t) = (f .fault ≡ stringTooLong start) × Fair-trace start t
 
 -- an accepted reading's length is its body's, and within the room; and it ends as the unlimited rules say
 abbrev pub Accepted-whole : Type 0
@@ -45,11 +45,11 @@ abbrev pub Recurs-whole : Type 0
 Recurs-whole =
     (full : Refusal) (l m r s : ℕ) (start : Position) (t : Trace)
     → full .fault .number ≡ 9
-    → Sevens start t
+    → Fair-trace start t
     → Looser l m
     → r ≤ s
-    → (number (cut full l r 0 t) ≡ 7 → ⊥)
-    → (number (cut full l r 0 t) ≡ 9 → ⊥)
+    → (refusalNumber (cut full l r 0 t) ≡ 7 → ⊥)
+    → (refusalNumber (cut full l r 0 t) ≡ 9 → ⊥)
     → cut full m s 0 t ≡ cut full l r 0 t
 
 -- what a reading may pass: the string limit, the literal room or, in a run, the token room
@@ -81,6 +81,6 @@ abbrev pub Cut-at-the-first : Type 0
 Cut-at-the-first =
     (full : Refusal) (limit room : ℕ) (start : Position) (t : Trace) (f : Refusal)
     → full .fault .number ≡ 9
-    → Sevens start t
+    → Fair-trace start t
     → cut full limit room 0 t ≡ Refused f
     → (f .fault .number ≡ 7 → Cuts full limit room 0 t string-limit f) × (f .fault .number ≡ 9 → Cuts full limit room 0 t literal-room f)

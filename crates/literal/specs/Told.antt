@@ -48,9 +48,9 @@ told (Refused f) =
     }
 
 -- the number alone
-unfoldable pub number : Scanned → ℕ
-number (Accepted e n) = 0
-number (Refused f) = f .fault .number
+unfoldable pub refusalNumber : Scanned → ℕ
+refusalNumber (Accepted e n) = 0
+refusalNumber (Refused f) = f .fault .number
 
 -- the fault that it tells; of an accepted scan number 0, at no place
 unfoldable pub faultOf : Scanned → Fault

@@ -3,6 +3,7 @@ use Prim.Native.Nat.{ℕ}
 use mathlib.Core.Bool.{Bool, false}
 use mathlib.Core.List.{List, [], _∷_, _++_}
 use lib.Dec.{ltb, eqb}
+use Rattle.basis.specs.Types.{Bytes}
 use Rattle.basis.specs.Pick.{pick}
 use Rattle.literal.specs.declared.End.{End}
 use Rattle.literal.specs.declared.Refusal.{Refusal}
@@ -26,7 +27,7 @@ yields (added bs ∷ ys) t = adds bs (yields ys t)
 yields (tested f ∷ ys) t = checks f (yields ys t)
 
 -- the body: all bytes that are added
-unfoldable pub bytes : Trace → List ℕ
+unfoldable pub bytes : Trace → Bytes
 bytes (ends e) = []
 bytes (fails f) = []
 bytes (adds bs t) = bs ++ bytes t

@@ -4,9 +4,10 @@ ghost use mathlib.Core.Path.{_≡_};
 ghost use Prim.Native.Nat.{_+_, _≤_, _<_};
 ghost use Rattle.literal.specs.Trace.{passes};
 ghost use Rattle.literal.specs.Told.{faultOf};
+ghost use Rattle.literal.specs.Answers.{asGiven, tooLong};
+ghost use Rattle.literal.specs.declared.Scanned.the-variants.{Refused};
 use chars::cursor::Cursor;
 use fault::Fault;
-use fault::Part;
 use position::Position;
 
 // The terminator on record, for a literal that is still open: a character, and how often it stands.
@@ -47,13 +48,31 @@ impl Scanned {
         ensures { λ r. ⌜ r ≡ faultOf self ⌝ }
     {
         match self {
-            Scanned::Accepted(_, _) => Fault {
-                number: 0,
-                place: Position::NONE,
-                part: Part::NONE,
-            },
+            Scanned::Accepted(_, _) => Fault::NONE,
             Scanned::Refused(refusal) => refusal.fault,
         }
+    }
+
+    // 1, 2, 3 or 9: offset and position are those given, and nothing is on record.
+    pub fn as_given(number: u8, start: Cursor) -> Scanned
+        ensures { λ r. ⌜ r ≡ Refused (asGiven number start) ⌝ }
+    {
+        Scanned::Refused(Refusal {
+            fault: Fault::at(number, start.place),
+            cursor: start,
+            on_record: Terminator::NONE,
+        })
+    }
+
+    // 7, at the literal's start, with what is on record.
+    pub fn too_long(start: Position, here: Cursor, on_record: Terminator) -> Scanned
+        ensures { λ r. ⌜ r ≡ Refused (tooLong start here on_record) ⌝ }
+    {
+        Scanned::Refused(Refusal {
+            fault: Fault::at(Fault::STRING_TOO_LONG, start),
+            cursor: here,
+            on_record,
+        })
     }
 }
 

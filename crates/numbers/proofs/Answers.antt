@@ -3,11 +3,11 @@ use Prim.Native.Nat.{ℕ, _*_, _≤_, _<_}
 use mathlib.Core.Bool.{true, false}
 use mathlib.Core.List.{List}
 use mathlib.Core.Path.{_≡_, sym, ap, _∙_}
-use lib.ListN.{length, getD}
+use lib.ListN.{length}
 use borrow.Author.Tests.{lt-ltb, le-ltb}
 use Rattle.lent.proofs.Writes.{untouched}
 use Rattle.numbers.specs.Spell.{spelled}
-use Rattle.numbers.specs.Answer.{short, returned, fitted, answered, beside}
+use Rattle.numbers.specs.Answer.{short, fitted, answered, beside}
 use Rattle.numbers.proofs.Rows.{length-spelled}
 
 module _ (n : ℕ) (row memory : List ℕ) (e : length row ≡ n) where
@@ -19,10 +19,6 @@ module _ (n : ℕ) (row memory : List ℕ) (e : length row ≡ n) where
     is-short : short row memory ≡ true
     unfolding short
     is-short = rw long (lt-ltb (length memory) (n * 8) h)
-
-    pub short-returns : 9 ≡ returned row memory
-    unfolding returned
-    short-returns = rw is-short
 
     pub short-fitted : 9 ≡ fitted row memory
     unfolding fitted
@@ -39,10 +35,6 @@ module _ (n : ℕ) (row memory : List ℕ) (e : length row ≡ n) where
     not-short : short row memory ≡ false
     unfolding short
     not-short = rw long (le-ltb (length memory) (n * 8) h)
-
-    pub long-returns : getD row 0 0 ≡ returned row memory
-    unfolding returned
-    long-returns = rw not-short
 
     pub long-fitted : 0 ≡ fitted row memory
     unfolding fitted

@@ -7,7 +7,7 @@ use mathlib.Core.Path.{_≡_, refl}
 use lib.ListN.{replicate}
 use Rattle.lent.specs.Written.{leftOf}
 use Rattle.numbers.specs.Spell.{spell, spelled, value}
-use Rattle.numbers.specs.Answer.{short, returned, answered}
+use Rattle.numbers.specs.Answer.{short, fitted, answered}
 
 -- w bytes tell each number that they can hold
 pub spell-tells : (w n : ℕ) → n < 256 ^ w → value (spell w n) ≡ n
@@ -21,11 +21,11 @@ pub record Worked : Type 0 where
   pub two-bytes : spell 2 513 ≡ 1 ∷ 2 ∷ []
   pub cut-off : spell 1 513 ≡ 1 ∷ []
   pub a-row : spelled 2 (7 ∷ 256 ∷ []) ≡ 7 ∷ 0 ∷ 0 ∷ 1 ∷ []
-  pub no-room : returned (3 ∷ []) (0 ∷ []) ≡ 9
-  pub with-room : returned (3 ∷ []) (replicate 8 0) ≡ 3
+  pub no-room : fitted (3 ∷ []) (0 ∷ []) ≡ 9
+  pub with-room : fitted (3 ∷ []) (replicate 8 0) ≡ 0
   pub is-left : answered (3 ∷ []) (5 ∷ []) ≡ 5 ∷ []
   pub in-front : answered (3 ∷ []) (replicate 9 5) ≡ 3 ∷ 0 ∷ 0 ∷ 0 ∷ 0 ∷ 0 ∷ 0 ∷ 0 ∷ 5 ∷ []
 
 pub worked : Worked
-unfolding spell spelled short returned leftOf
+unfolding spell spelled short fitted leftOf
 worked = record { two-bytes = refl; cut-off = refl; a-row = refl; no-room = refl; with-room = refl; is-left = refl; in-front = refl }

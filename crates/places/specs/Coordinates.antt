@@ -18,12 +18,12 @@ unfoldable pub numbered : Position → ℕ → Coordinate
 numbered p n = pick (isNone p) None (Some n)
 
 -- the Rust's `line`
-unfoldable pub lineOf : Position → Coordinate
-lineOf p = numbered p (lineNumber p)
+unfoldable pub lineOption : Position → Coordinate
+lineOption p = numbered p (lineNumber p)
 
 -- the Rust's `position`: none at the beginning of a line too
-unfoldable pub positionOf : Position → Coordinate
-positionOf p = pick (eqb (columnNumber p) 0) None (numbered p (columnNumber p))
+unfoldable pub positionOption : Position → Coordinate
+positionOption p = pick (eqb (columnNumber p) 0) None (numbered p (columnNumber p))
 
 -- the Rust's `unwrap_or`
 unfoldable pub unwrapOr : Coordinate → ℕ → ℕ

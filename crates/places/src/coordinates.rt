@@ -1,6 +1,7 @@
 // The numbers of a place as the Rust gives and takes them: Position::new, line and position of types/position.rs.
 ghost use mathlib.Core.Path.{_≡_};
-ghost use Rattle.places.specs.Coordinates.{newOf, numbered, lineOf, positionOf};
+ghost use Rattle.places.specs.Coordinates.{newOf, numbered, lineOption, positionOption};
+use fault::Fault;
 use position::Position;
 
 // A place, or the number of the refusal.
@@ -20,7 +21,7 @@ pub fn new(line: u16, position: u16) -> Placed
     ensures { λ r. ⌜ r ≡ newOf line position ⌝ }
 {
     if line == 0 {
-        return Placed::Refused(3);
+        return Placed::Refused(Fault::BAD_ARGUMENT);
     }
     Placed::At(Position::given(line, position))
 }
@@ -36,13 +37,13 @@ fn numbered(p: Position, n: u16) -> Coordinate
 }
 
 pub fn line(p: Position) -> Coordinate
-    ensures { λ r. ⌜ r ≡ lineOf p ⌝ }
+    ensures { λ r. ⌜ r ≡ lineOption p ⌝ }
 {
     numbered(p, p.line_number())
 }
 
 pub fn position(p: Position) -> Coordinate
-    ensures { λ r. ⌜ r ≡ positionOf p ⌝ }
+    ensures { λ r. ⌜ r ≡ positionOption p ⌝ }
 {
     let column = p.column_number();
     if column == 0 {

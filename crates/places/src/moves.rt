@@ -2,6 +2,7 @@
 ghost use mathlib.Core.Path.{_≡_};
 ghost use Rattle.places.specs.Moves.{moved, advanceOf, rewindOf, newLineOf};
 use crate::coordinates::Placed;
+use fault::Fault;
 use position::Position;
 
 // A move, which no place on line 0 makes: the Rust refuses only NONE.
@@ -11,7 +12,7 @@ fn moved(p: Position, to: Position) -> Placed
     if p.is_on_line() {
         return Placed::At(to);
     }
-    Placed::Refused(3)
+    Placed::Refused(Fault::BAD_ARGUMENT)
 }
 
 pub fn advance(p: Position) -> Placed
@@ -24,7 +25,7 @@ pub fn rewind(p: Position) -> Placed
     ensures { λ r. ⌜ r ≡ rewindOf p ⌝ }
 {
     if p.column_number() == 0 {
-        return Placed::Refused(3);
+        return Placed::Refused(Fault::BAD_ARGUMENT);
     }
     moved(p, p.rewound())
 }

@@ -4,6 +4,7 @@ ghost use mathlib.Core.Bool.{true};
 ghost use Rattle.position.specs.Place.{onLine};
 ghost use Rattle.places.specs.Sum.{sumOn, sumLines, sumOf};
 use crate::coordinates::Placed;
+use fault::Fault;
 use position::Position;
 
 // The sum of two columns, on the line that the sum has.
@@ -14,7 +15,7 @@ fn sum_on(line: u16, c: u16, d: u16) -> Placed
         return Placed::At(Position::given(line, c));
     }
     if 65535 - d < c {
-        return Placed::Refused(15);
+        return Placed::Refused(Fault::BAD_SUM);
     }
     Placed::At(Position::given(line, c + d - 1))
 }
@@ -27,7 +28,7 @@ fn sum_lines(p: Position, rhs: Position) -> Placed
     let line = p.line_number();
     let more = rhs.line_number();
     if 65535 - more < line {
-        return Placed::Refused(15);
+        return Placed::Refused(Fault::BAD_SUM);
     }
     sum_on(line + more - 1, p.column_number(), rhs.column_number())
 }
@@ -43,7 +44,7 @@ pub fn sum(p: Position, rhs: Position) -> Placed
         if rhs.is_on_line() {
             return sum_lines(p, rhs);
         }
-        return Placed::Refused(15);
+        return Placed::Refused(Fault::BAD_SUM);
     }
-    Placed::Refused(15)
+    Placed::Refused(Fault::BAD_SUM)
 }

@@ -3,22 +3,22 @@
 use mathlib.Core.Bool.{true}
 use mathlib.Core.Path.{_≡_, refl}
 use Rattle.position.specs.Place.{none, isNone}
-use Rattle.span.specs.Spans.{newSpan, noSpan, startOf, endOf, isNoSpan}
+use Rattle.span.specs.Spans.{newSpan, noSpan, spanStart, spanEnd, isNoSpan}
 use Rattle.position.specs.declared.Position.{Position}
 use Rattle.span.specs.declared.Span.{Span}
 
 module _ (a b : Position) where
-  pub start-new : startOf (newSpan a b) ≡ a
-  unfolding startOf newSpan
+  pub start-new : spanStart (newSpan a b) ≡ a
+  unfolding spanStart newSpan
   start-new = refl
 
-  pub end-new : endOf (newSpan a b) ≡ b
-  unfolding endOf newSpan
+  pub end-new : spanEnd (newSpan a b) ≡ b
+  unfolding spanEnd newSpan
   end-new = refl
 
 -- a span is its two places
-pub new-whole : (s : Span) → newSpan (startOf s) (endOf s) ≡ s
-unfolding startOf endOf newSpan
+pub new-whole : (s : Span) → newSpan (spanStart s) (spanEnd s) ≡ s
+unfolding spanStart spanEnd newSpan
 new-whole s = refl
 
 -- no span is none

@@ -14,12 +14,12 @@ unfoldable pub noSpan : Span
 noSpan = newSpan none none
 
 -- the Rust's `start`
-unfoldable pub startOf : Span → Position
-startOf s = s .start
+unfoldable pub spanStart : Span → Position
+spanStart s = s .start
 
 -- the Rust's `end`
-unfoldable pub endOf : Span → Position
-endOf s = s .end
+unfoldable pub spanEnd : Span → Position
+spanEnd s = s .end
 
 -- the Rust's `is_none`
 unfoldable pub isNoSpan : Span → Bool

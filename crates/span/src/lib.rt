@@ -1,6 +1,6 @@
 // Spans between two places: the type Span of types/position.rs.
 ghost use mathlib.Core.Path.{_≡_};
-ghost use Rattle.span.specs.Spans.{newSpan, isNoSpan, startOf, endOf};
+ghost use Rattle.span.specs.Spans.{newSpan, isNoSpan, spanStart, spanEnd};
 use position::Position;
 
 pub struct Span {
@@ -30,13 +30,13 @@ impl Span {
     }
 
     pub fn start(self) -> Position
-        ensures { λ r. ⌜ r ≡ startOf self ⌝ }
+        ensures { λ r. ⌜ r ≡ spanStart self ⌝ }
     {
         self.start
     }
 
     pub fn end(self) -> Position
-        ensures { λ r. ⌜ r ≡ endOf self ⌝ }
+        ensures { λ r. ⌜ r ≡ spanEnd self ⌝ }
     {
         self.end
     }

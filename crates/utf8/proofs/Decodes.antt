@@ -9,7 +9,7 @@ use mathlib.Core.Path.{_≡_, refl, ap}
 use lib.ListN.{length, drop, getD}
 use Rattle.basis.specs.Pick.{pick}
 use Rattle.basis.proofs.Bounds.{split}
-use Rattle.utf8.specs.Table.{Range, _‥_, within, Row, row, table37, further, lookIn, look}
+use Rattle.utf8.specs.Table.{Range, _‥_, within, TableRow, row, table37, further, lookIn, look}
 use Rattle.utf8.specs.Encode.{isScalar, encode}
 use Rattle.utf8.specs.declared.Look.{Look}
 use Rattle.utf8.specs.declared.Look.the-variants.{Char, End}
@@ -112,7 +112,7 @@ module _ {b n from to : ℕ} {r : Range} {rs : List Range} (f : Fair b n from to
       })
 
 -- ---- the table
-in-reads : (rows : List Row) (b n : ℕ) → Fair-rows b n rows → (bs : List ℕ) {c w : ℕ} → lookIn rows bs ≡ Char c w → Reads bs c w
+in-reads : (rows : List TableRow) (b n : ℕ) → Fair-rows b n rows → (bs : List ℕ) {c w : ℕ} → lookIn rows bs ≡ Char c w → Reads bs c w
 in-reads [] b n f bs z = no-end z
 in-reads (row from to r rs ∷ rows) b n f [] z = no-end z
 in-reads (row from to r rs ∷ rows) b n f (a ∷ bs) {c} {w} z = go (within r a) refl z (λ q. in-reads rows (suc (r .high)) (suc to) (f .1) (a ∷ bs) q)

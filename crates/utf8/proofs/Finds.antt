@@ -8,7 +8,7 @@ use mathlib.Core.Logic.{⊎-elim}
 use mathlib.Core.Path.{_≡_, ap, _∙_}
 use lib.ListN.{length}
 use Rattle.basis.proofs.Bounds.{split}
-use Rattle.utf8.specs.Table.{Range, within, Row, row, table37, further, lookIn, look}
+use Rattle.utf8.specs.Table.{Range, within, TableRow, row, table37, further, lookIn, look}
 use Rattle.utf8.specs.Encode.{isScalar, encode}
 use Rattle.utf8.specs.declared.Look.the-variants.{Char}
 use Rattle.utf8.proofs.Encodes.{scalar-small, scalar-past}
@@ -49,7 +49,7 @@ tail-finds (s ∷ rs) f w v p u c t k e l g d =
 
 -- ---- a row
 -- the encoding of c is a first byte, b at least, and some further ones, and the rows read c off it
-record Finds (b : ℕ) (rows : List Row) (t : List ℕ) (c : ℕ) : Type 0 where
+record Finds (b : ℕ) (rows : List TableRow) (t : List ℕ) (c : ℕ) : Type 0 where
   first : ℕ
   others : List ℕ
   bytes : encode c ≡ first ∷ others
@@ -57,7 +57,7 @@ record Finds (b : ℕ) (rows : List Row) (t : List ℕ) (c : ℕ) : Type 0 where
   found : lookIn rows (first ∷ others ++ t) ≡ Char c (length (encode c))
 
 -- its own row
-row-finds : {b n from to : ℕ} {r : Range} {rs : List Range} → Fair b n from to r rs → (rows : List Row) (t : List ℕ) (c : ℕ) → from ≤ c → c ≤ to
+row-finds : {b n from to : ℕ} {r : Range} {rs : List Range} → Fair b n from to r rs → (rows : List TableRow) (t : List ℕ) (c : ℕ) → from ≤ c → c ≤ to
     → Finds b (row from to r rs ∷ rows) t c
 row-finds {b} {n} {from} {to} {r} {rs} f rows t c h g =
     let m : ℕ = length rs in
@@ -79,7 +79,7 @@ row-finds {b} {n} {from} {to} {r} {rs} f rows t c h g =
     }
 
 -- a later one
-later-finds : {b n from to : ℕ} {r : Range} {rs : List Range} {rows : List Row} {t : List ℕ} {c : ℕ} → Fair b n from to r rs → Finds (suc (r .high)) rows t c
+later-finds : {b n from to : ℕ} {r : Range} {rs : List Range} {rows : List TableRow} {t : List ℕ} {c : ℕ} → Fair b n from to r rs → Finds (suc (r .high)) rows t c
     → Finds b (row from to r rs ∷ rows) t c
 later-finds {r = r} f i = record {
   first = i .first;
@@ -95,7 +95,7 @@ next-row : {b n from to : ℕ} {r : Range} {rs : List Range} → Fair b n from t
 next-row {b} {n} {from} f c s h =
     ⊎-elim (λ k. let m = f .left-out k in let q = scalar-past c s (omega arith) in omega arith) (λ k. omega arith) (split n from)
 
-in-finds : (rows : List Row) (b n : ℕ) → Fair-rows b n rows → (t : List ℕ) (c : ℕ) → isScalar c ≡ true → n ≤ c → Finds b rows t c
+in-finds : (rows : List TableRow) (b n : ℕ) → Fair-rows b n rows → (t : List ℕ) (c : ℕ) → isScalar c ≡ true → n ≤ c → Finds b rows t c
 in-finds [] b n f t c s h = absurd (let k = scalar-small c s in omega arith)
 in-finds (row from to r rs ∷ rows) b n f t c s h =
     ⊎-elim (λ g. row-finds (f .0) rows t c (next-row (f .0) c s h) (omega arith))

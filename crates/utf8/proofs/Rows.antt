@@ -5,7 +5,7 @@ use native.Mathlib.Omega.{arith}
 use mathlib.Core.List.{List, [], _∷_}
 use mathlib.Core.Path.{_≡_, refl}
 use lib.ListN.{length}
-use Rattle.utf8.specs.Table.{Range, Row, row, table37}
+use Rattle.utf8.specs.Table.{Range, TableRow, row, table37}
 use Rattle.utf8.proofs.Digits.{base, least, past}
 
 -- one more digit: that of a range's lowest byte, and that of its highest
@@ -56,7 +56,7 @@ pub record Fair (b n from to : ℕ) (r : Range) (rs : List Range) : Type 0 where
   -- and no first byte is a further byte
   pub apart : 0x80 ≤ r .high → 0xC0 ≤ r .low
 
-abbrev pub Fair-rows : ℕ → ℕ → List Row → Type 0
+abbrev pub Fair-rows : ℕ → ℕ → List TableRow → Type 0
 Fair-rows b n [] = n ≡ 0x110000
 Fair-rows b n (row from to r rs ∷ rows) = Fair b n from to r rs × Fair-rows (suc (r .high)) (suc to) rows
 

@@ -13,7 +13,7 @@ use Rattle.basis.proofs.Bytes.{here, past}
 use Rattle.basis.proofs.Cases.{not-both, both-left}
 use Rattle.utf8.specs.Table.{Range, _‥_, within, further, look, lookAt}
 use Rattle.utf8.specs.Bits.{bitsOf}
-use Rattle.utf8.specs.Widths.{widthOf, fits, rowWidth}
+use Rattle.utf8.specs.Widths.{widthOf, fitsRow, rowWidth}
 use Rattle.utf8.specs.declared.Look.{Look}
 use Rattle.utf8.specs.declared.Look.the-variants.{Char, End}
 use Rattle.utf8.proofs.Encodes.{enc1}
@@ -24,13 +24,13 @@ use Rattle.utf8.proofs.Laws.{at-width}
 
 -- ---- the rows
 -- a row gives a character where its further bytes are all there
-further-width : (rs : List Range) (from w v : ℕ) (bs : List ℕ) → widthOf (further from w rs v bs) ≡ pick (fits rs bs) w 0
-unfolding widthOf fits
+further-width : (rs : List Range) (from w v : ℕ) (bs : List ℕ) → widthOf (further from w rs v bs) ≡ pick (fitsRow rs bs) w 0
+unfolding widthOf fitsRow
 further-width [] from w v bs = refl
 further-width (r ∷ rs) from w v [] = refl
 further-width (r ∷ rs) from w v (b ∷ bs) =
     let u : ℕ = v * 64 + (b - r .low) in
-    by (within r b) (further from w rs u bs) (fits rs bs) (further-width rs from w u bs)
+    by (within r b) (further from w rs u bs) (fitsRow rs bs) (further-width rs from w u bs)
   where
     by : (t : Bool) (x : Look) (y : Bool) → widthOf x ≡ pick y w 0 → widthOf (pick t x End) ≡ pick (both t y) w 0
     by true x y e = e
@@ -81,35 +81,35 @@ module _ (a : ℕ) (bs : List ℕ) where
 -- ---- the further bytes of a row, one by one
 module _ (t : List ℕ) (at k : ℕ) (r : Range) (rs : List Range) where
   -- one is there, and then the others tell
-  pub fits-on : fits (r ∷ []) (drop (at + k) t) ≡ true → fits (r ∷ rs) (drop (at + k) t) ≡ fits rs (drop (at + suc k) t)
-  unfolding fits
+  pub fits-on : fitsRow (r ∷ []) (drop (at + k) t) ≡ true → fitsRow (r ∷ rs) (drop (at + k) t) ≡ fitsRow rs (drop (at + suc k) t)
+  unfolding fitsRow
   fits-on y = ⊎-elim there (λ h. not-both y (missing h)) (split (at + k) (length t))
     where
-      missing : length t ≤ at + k → fits (r ∷ []) (drop (at + k) t) ≡ false
+      missing : length t ≤ at + k → fitsRow (r ∷ []) (drop (at + k) t) ≡ false
       missing h = rw (past t (at + k) h)
 
-      there : at + k < length t → fits (r ∷ rs) (drop (at + k) t) ≡ fits rs (drop (at + suc k) t)
+      there : at + k < length t → fitsRow (r ∷ rs) (drop (at + k) t) ≡ fitsRow rs (drop (at + suc k) t)
       there h =
           let b : ℕ = getD t (at + k) 0 in
           let q : at + k + 1 ≡ at + suc k = omega arith in
-          rw (here t (at + k) h, both-left (within r b) true (ap (fits (r ∷ [])) (sym (here t (at + k) h)) ∙ y), q)
+          rw (here t (at + k) h, both-left (within r b) true (ap (fitsRow (r ∷ [])) (sym (here t (at + k) h)) ∙ y), q)
 
   -- it is not
-  pub fits-not : fits (r ∷ []) (drop (at + k) t) ≡ false → fits (r ∷ rs) (drop (at + k) t) ≡ false
-  unfolding fits
+  pub fits-not : fitsRow (r ∷ []) (drop (at + k) t) ≡ false → fitsRow (r ∷ rs) (drop (at + k) t) ≡ false
+  unfolding fitsRow
   fits-not = by (drop (at + k) t)
     where
-      by : (bs : List ℕ) → fits (r ∷ []) bs ≡ false → fits (r ∷ rs) bs ≡ false
+      by : (bs : List ℕ) → fitsRow (r ∷ []) bs ≡ false → fitsRow (r ∷ rs) bs ≡ false
       by [] e = refl
       by (b ∷ bs) e = on (within r b) e
         where
-          on : (x : Bool) → both x true ≡ false → both x (fits rs bs) ≡ false
+          on : (x : Bool) → both x true ≡ false → both x (fitsRow rs bs) ≡ false
           on true z = not-both refl z
           on false z = refl
 
 -- a further byte has six bits
-pub fits-bits : (bs : List ℕ) (b : ℕ) → b ≡ bitsOf bs → b < 64 → fits (0x80 ‥ 0xBF ∷ []) bs ≡ true
-unfolding fits
+pub fits-bits : (bs : List ℕ) (b : ℕ) → b ≡ bitsOf bs → b < 64 → fitsRow (0x80 ‥ 0xBF ∷ []) bs ≡ true
+unfolding fitsRow
 fits-bits [] b e h = absurd (omega arith)
 fits-bits (x ∷ bs) b e h = by (within (0x80 ‥ 0xBF) x) e
   where
@@ -118,8 +118,8 @@ fits-bits (x ∷ bs) b e h = by (within (0x80 ‥ 0xBF) x) e
     by false q = absurd (omega arith)
 
 -- from 90 on they are sixteen or more
-pub fits-bits-from : (bs : List ℕ) (b : ℕ) → b ≡ bitsOf bs → 16 ≤ b → b < 64 → fits (0x90 ‥ 0xBF ∷ []) bs ≡ true
-unfolding fits
+pub fits-bits-from : (bs : List ℕ) (b : ℕ) → b ≡ bitsOf bs → 16 ≤ b → b < 64 → fitsRow (0x90 ‥ 0xBF ∷ []) bs ≡ true
+unfolding fitsRow
 fits-bits-from [] b e l h = absurd (omega arith)
 fits-bits-from (x ∷ bs) b e l h = by (within (0x80 ‥ 0xBF) x) refl e
   where
@@ -127,8 +127,8 @@ fits-bits-from (x ∷ bs) b e l h = by (within (0x80 ‥ 0xBF) x) refl e
     by true p q = rw (is-within (0x90 ‥ 0xBF) x (omega arith) (within-high (0x80 ‥ 0xBF) x p))
     by false p q = absurd (omega arith)
 
-pub fits-no-bits : (bs : List ℕ) (b : ℕ) → b ≡ bitsOf bs → 63 < b → fits (0x80 ‥ 0xBF ∷ []) bs ≡ false
-unfolding fits
+pub fits-no-bits : (bs : List ℕ) (b : ℕ) → b ≡ bitsOf bs → 63 < b → fitsRow (0x80 ‥ 0xBF ∷ []) bs ≡ false
+unfolding fitsRow
 fits-no-bits [] b e h = refl
 fits-no-bits (x ∷ bs) b e h = by (within (0x80 ‥ 0xBF) x) refl e
   where

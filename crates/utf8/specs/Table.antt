@@ -4,6 +4,7 @@ use mathlib.Core.Bool.{Bool, true, false}
 use mathlib.Core.List.{List, [], _∷_}
 use lib.Dec.{leb, ltb, eqb}
 use lib.ListN.{length, drop, getD}
+use Rattle.basis.specs.Types.{Text, Code, Offset}
 use Rattle.basis.specs.Pick.{pick, both, isnt}
 use Rattle.utf8.specs.declared.Look.{Look}
 use Rattle.utf8.specs.declared.Look.the-variants.{Char, End}
@@ -23,11 +24,11 @@ abbrev pub within : Range → ℕ → Bool
 within r b = both (leb (r .low) b) (leb b (r .high))
 
 -- a row of the table: its code points, from and to; its first byte; its further bytes
-pub data Row : Type 0 where
-  row : ℕ → ℕ → Range → List Range → Row
+pub data TableRow : Type 0 where
+  row : ℕ → ℕ → Range → List Range → TableRow
 
 -- Table 3-7, well-formed UTF-8 byte sequences
-abbrev pub table37 : List Row
+abbrev pub table37 : List TableRow
 table37 =
     row 0x0000 0x007F (0x00 ‥ 0x7F) []
     ∷ row 0x0080 0x07FF (0xC2 ‥ 0xDF) (0x80 ‥ 0xBF ∷ [])
@@ -41,33 +42,33 @@ table37 =
     ∷ []
 
 -- the further bytes of a row, each in its range: the code point, counted on from v in sixty-fourths, and the width w
-abbrev pub further : ℕ → ℕ → List Range → ℕ → List ℕ → Look
+abbrev pub further : Code → ℕ → List Range → ℕ → Text → Look
 further from w [] v bs = Char (from + v) w
 further from w (r ∷ rs) v [] = End
 further from w (r ∷ rs) v (b ∷ bs) = pick (within r b) (further from w rs (v * 64 + (b - r .low)) bs) End
 
 -- the character that the bytes begin with, by the row that has the first byte; End if no row has it
-abbrev pub lookIn : List Row → List ℕ → Look
+abbrev pub lookIn : List TableRow → Text → Look
 lookIn [] bs = End
 lookIn (row from to r rs ∷ rows) [] = End
 lookIn (row from to r rs ∷ rows) (b ∷ bs) =
     pick (within r b) (further from (suc (length rs)) rs (b - r .low) bs) (lookIn rows (b ∷ bs))
 
 -- the character that a text begins with: its code point and its width in bytes; End if none does
-unfoldable pub look : List ℕ → Look
+unfoldable pub look : Text → Look
 look bs = lookIn table37 bs
 
 -- the character that begins at an offset
-unfoldable pub lookAt : List ℕ → ℕ → Look
+unfoldable pub lookAt : Text → Offset → Look
 lookAt s at = look (drop at s)
 
 -- a character of a text: its code point, and how many bytes it takes
 pub record Ch : Type 0 where
-  pub code : ℕ
+  pub code : Code
   pub width : ℕ
 
 -- a character, by its parts
-abbrev pub ch : ℕ → ℕ → Ch
+abbrev pub ch : Code → ℕ → Ch
 ch c w = record { code = c; width = w }
 
 -- a character found, and then those after its bytes
@@ -76,21 +77,21 @@ charsOn (Char c w) on = ch c w ∷ on (pred w)
 charsOn End on = []
 
 -- the characters of a text of which k bytes are still to pass
-unfoldable pub charsFrom : ℕ → List ℕ → List Ch
+unfoldable pub charsFrom : ℕ → Text → List Ch
 charsFrom k [] = []
 charsFrom zero (b ∷ bs) = charsOn (look (b ∷ bs)) (λ k. charsFrom k bs)
 charsFrom (suc k) (b ∷ bs) = charsFrom k bs
 
 -- the characters of a text, up to the first place where none begins
-unfoldable pub chars : List ℕ → List Ch
+unfoldable pub chars : Text → List Ch
 chars s = charsFrom 0 s
 
 -- the characters from an offset on
-unfoldable pub charsAt : List ℕ → ℕ → List Ch
+unfoldable pub charsAt : Text → Offset → List Ch
 charsAt s at = chars (drop at s)
 
 -- their code points
-unfoldable pub codes : List Ch → List ℕ
+unfoldable pub codes : List Ch → List Code
 codes [] = []
 codes (c ∷ cs) = c .code ∷ codes cs
 
@@ -100,20 +101,20 @@ wellOn (Char c w) on = on (pred w)
 wellOn End on = false
 
 -- a text of which k bytes are still to pass is well formed after them
-unfoldable pub wellFrom : ℕ → List ℕ → Bool
+unfoldable pub wellFrom : ℕ → Text → Bool
 wellFrom k [] = true
 wellFrom zero (b ∷ bs) = wellOn (look (b ∷ bs)) (λ k. wellFrom k bs)
 wellFrom (suc k) (b ∷ bs) = wellFrom k bs
 
 -- a text is well formed: a character begins at its start and wherever one ended, up to its end
-unfoldable pub well : List ℕ → Bool
+unfoldable pub well : Text → Bool
 well s = wellFrom 0 s
 
 -- an offset at which a character of the list begins, or the end of the list
-unfoldable pub edge : List Ch → ℕ → Bool
+unfoldable pub edge : List Ch → Offset → Bool
 edge [] n = eqb n 0
 edge (c ∷ cs) n = pick (eqb n 0) true (pick (ltb n (c .width)) false (edge cs (n - c .width)))
 
 -- an offset whose byte is not 80..BF, or the end of the text: in a well-formed text, the edges (law boundary-edge)
-unfoldable pub boundary : List ℕ → ℕ → Bool
+unfoldable pub boundary : Text → Offset → Bool
 boundary s at = pick (ltb at (length s)) (isnt (within (0x80 ‥ 0xBF) (getD s at 0))) (eqb at (length s))

@@ -3,6 +3,7 @@ use Prim.Native.Nat.{ℕ, suc}
 use mathlib.Core.Bool.{Bool, true, false}
 use mathlib.Core.List.{List, [], _∷_}
 use lib.ListN.{length}
+use Rattle.basis.specs.Types.{Text}
 use Rattle.basis.specs.Pick.{pick, both}
 use Rattle.utf8.specs.Table.{Range, within}
 use Rattle.utf8.specs.declared.Look.{Look}
@@ -14,11 +15,11 @@ widthOf (Char c w) = w
 widthOf End = 0
 
 -- the bytes begin with one of each range
-unfoldable pub fits : List Range → List ℕ → Bool
-fits [] bs = true
-fits (r ∷ rs) [] = false
-fits (r ∷ rs) (b ∷ bs) = both (within r b) (fits rs bs)
+unfoldable pub fitsRow : List Range → Text → Bool
+fitsRow [] bs = true
+fitsRow (r ∷ rs) [] = false
+fitsRow (r ∷ rs) (b ∷ bs) = both (within r b) (fitsRow rs bs)
 
 -- the width that a row's further bytes make with a first byte; 0 if one of them is missing
-abbrev pub rowWidth : List Range → List ℕ → ℕ
-rowWidth rs bs = pick (fits rs bs) (suc (length rs)) 0
+abbrev pub rowWidth : List Range → Text → ℕ
+rowWidth rs bs = pick (fitsRow rs bs) (suc (length rs)) 0

@@ -5,7 +5,7 @@ ghost use mathlib.Core.Path.{_≡_};
 ghost use Prim.Native.Nat.{_+_, _≤_, _<_};
 ghost use lib.ListN.{length, drop, getD};
 ghost use Rattle.utf8.specs.Table.{_‥_, look, well, boundary};
-ghost use Rattle.utf8.specs.Widths.{widthOf, fits, rowWidth};
+ghost use Rattle.utf8.specs.Widths.{widthOf, fitsRow, rowWidth};
 ghost use Rattle.utf8.specs.Blocks.{Ascii};
 
 // Whether n bytes stand from an offset on and are all ASCII. The loop goes to its end, so that the compiler takes many bytes at a time.
@@ -47,7 +47,7 @@ fn behind_ascii(text: &[u8], at: usize) -> usize
 
 // Whether a byte of a range stands at an offset.
 fn is_in(text: &[u8], at: usize, low: u8, high: u8) -> bool
-    ensures { λ r. ⌜ r ≡ fits (low ‥ high ∷ []) (drop at (now (text .entry))) ⌝ }
+    ensures { λ r. ⌜ r ≡ fitsRow (low ‥ high ∷ []) (drop at (now (text .entry))) ⌝ }
 {
     if at < text.len() {
         let b = text[at];

@@ -129,7 +129,7 @@ fn is_four(text: &[u8], at: usize, a: u32) -> bool
     true
 }
 
-// Inner: the width of the character at an offset whose byte, a, is above 7F; 0 where none begins. The common rows are seen at once.
+// The width of the character at an offset whose byte, a, is above 7F; 0 where none begins. The common rows are seen at once.
 pub fn width(text: &[u8], at: usize, a: u32) -> usize
     requires { ⌜ (at < length (now text)) × (0x80 ≤ a) ⌝ }
     ensures { λ r. ⌜ r ≡ widthOf (look (a ∷ drop (at + 1) (now (text .entry)))) ⌝ }

@@ -10,7 +10,7 @@ use borrow.Author.Tests.{le-leb, lt-leb, leb-true}
 use Rattle.basis.specs.Pick.{both, either}
 use Rattle.basis.proofs.Cases.{true-left, true-right, both-no}
 use Rattle.utf8.specs.Table.{Range, within}
-use Rattle.white.specs.White.{among}
+use Rattle.white.specs.White.{amongRanges}
 
 -- the range lies above the interval, below it, or around it
 abbrev pub clear : Range → ℕ → ℕ → Bool
@@ -33,6 +33,6 @@ module _ (c l u : ℕ) (h : l ≤ c) (g : c < u) where
       go false false false true p q m n z = absurd z
       go false false false false p q m n z = absurd z
 
-  pub among-steady : (rs : List Range) → T (steady rs l u) → among rs l ≡ among rs c
+  pub among-steady : (rs : List Range) → T (steady rs l u) → amongRanges rs l ≡ amongRanges rs c
   among-steady [] t = refl
   among-steady (r ∷ rs) t = rw (one r (true-left (clear r l u) (steady rs l u) t), among-steady rs (true-right (clear r l u) (steady rs l u) t))

@@ -12,11 +12,11 @@ use Rattle.basis.specs.Pick.{either}
 use Rattle.basis.proofs.Bounds.{split}
 use Rattle.utf8.specs.Table.{Range, within}
 use Rattle.utf8.proofs.Ranges.{within-low, within-high}
-use Rattle.white.specs.White.{among, whites, isWhite}
+use Rattle.white.specs.White.{amongRanges, whites, isWhite}
 use Rattle.white.proofs.Steady.{steady, among-steady}
 
 -- no entry begins or ends between l and u: what holds of l holds of c
-steadily : (c l u : ℕ) → l ≤ c → c < u → T (steady whites l u) → among whites l ≡ among whites c
+steadily : (c l u : ℕ) → l ≤ c → c < u → T (steady whites l u) → amongRanges whites l ≡ amongRanges whites c
 steadily c l u h g t = among-steady c l u h g whites t
 
 -- the entries of more code points, and two that stand side by side
@@ -45,12 +45,12 @@ singles = 0x0020 ∷ 0x0085 ∷ 0x00A0 ∷ 0x1680 ∷ 0x202F ∷ 0x205F ∷ 0x30
 -- one of some numbers that are all white is white
 abbrev All : List ℕ → Type 0
 All [] = Unit {0}
-All (k ∷ ks) = (true ≡ among whites k) × All ks
+All (k ∷ ks) = (true ≡ amongRanges whites k) × All ks
 
-one-of : (c : ℕ) (ks : List ℕ) → All ks → OneOf ks c → true ≡ among whites c
+one-of : (c : ℕ) (ks : List ℕ) → All ks → OneOf ks c → true ≡ amongRanges whites c
 one-of c [] a o = absurd o
-one-of c (k ∷ []) a o = a .0 ∙ sym (ap (among whites) o)
-one-of c (k ∷ j ∷ ks) a o = ⊎-elim (λ e. a .0 ∙ sym (ap (among whites) e)) (λ l. one-of c (j ∷ ks) (a .1) l) o
+one-of c (k ∷ []) a o = a .0 ∙ sym (ap (amongRanges whites) o)
+one-of c (k ∷ j ∷ ks) a o = ⊎-elim (λ e. a .0 ∙ sym (ap (amongRanges whites) e)) (λ l. one-of c (j ∷ ks) (a .1) l) o
 
 pub single : (c : ℕ) → OneOf singles c → true ≡ isWhite c
 unfolding isWhite
@@ -61,11 +61,11 @@ abbrev Outside : List Range → ℕ → Type 0
 Outside [] c = Unit {0}
 Outside (r ∷ rs) c = (r .low ≤ c → c ≤ r .high → ⊥) × Outside rs c
 
-outside : (rs : List Range) (c : ℕ) → Outside rs c → false ≡ among rs c
+outside : (rs : List Range) (c : ℕ) → Outside rs c → false ≡ amongRanges rs c
 outside [] c o = refl
 outside (r ∷ rs) c o = go (within r c) refl (outside rs c (o .1))
   where
-    go : (t : Bool) → within r c ≡ t → false ≡ among rs c → false ≡ either t (among rs c)
+    go : (t : Bool) → within r c ≡ t → false ≡ amongRanges rs c → false ≡ either t (amongRanges rs c)
     go true e q = absurd (o .0 (within-low r c e) (within-high r c e))
     go false e q = q
 

@@ -1,7 +1,7 @@
 -- White_Space: document 01, "Characters", which has the eleven entries of the property file in its order.
-use Prim.Native.Nat.{ℕ}
 use mathlib.Core.Bool.{Bool, false}
 use mathlib.Core.List.{List, [], _∷_}
+use Rattle.basis.specs.Types.{Code}
 use Rattle.basis.specs.Pick.{either}
 use Rattle.utf8.specs.Table.{Range, _‥_, within}
 
@@ -22,10 +22,10 @@ whites =
     ∷ []
 
 -- the number stands in one of the ranges
-abbrev pub among : List Range → ℕ → Bool
-among [] c = false
-among (r ∷ rs) c = either (within r c) (among rs c)
+abbrev pub amongRanges : List Range → Code → Bool
+amongRanges [] c = false
+amongRanges (r ∷ rs) c = either (within r c) (amongRanges rs c)
 
 -- the character is white
-unfoldable pub isWhite : ℕ → Bool
-isWhite c = among whites c
+unfoldable pub isWhite : Code → Bool
+isWhite c = amongRanges whites c

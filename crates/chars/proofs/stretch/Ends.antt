@@ -27,7 +27,7 @@ use Rattle.chars.specs.declared.cursor.Cursor.{Cursor}
 use Rattle.chars.specs.Stretch as stretch
 use Rattle.chars.proofs.Stretches.{Plain, plain-turn, stretched}
 use Rattle.chars.proofs.Scans.{move-on, move-over, at-end, one-on, is-over}
-use Rattle.chars.specs.Ends.{goesOn, rule, endOf}
+use Rattle.chars.specs.Ends.{goesOn, stretchRule, stretchEnd}
 use Rattle.chars.specs.Passing.{Goes, Ends}
 use Rattle.chars.specs.declared.stretch.Stretch.{Stretch}
 use Rattle.chars.specs.declared.stretch.Stretch.the-variants.{Word, Line}
@@ -88,46 +88,46 @@ module _ (what : Stretch) (t : List ℕ) (s : Cursor) where
   abbrev after : ℕ → Position
   after k = advancedBy k (s .place)
 
-  plain : (k b c w : ℕ) → lookAt t b ≡ look.Char c w → Goes what c → Plain (rule what) t after (λ b r. r) k b w
-  plain k b c w e y = plain-turn (rule what) t after (λ b r. r) e (rw (y, advanced-by-more k (s .place))) (λ r. refl)
+  plain : (k b c w : ℕ) → lookAt t b ≡ look.Char c w → Goes what c → Plain (stretchRule what) t after (λ b r. r) k b w
+  plain k b c w e y = plain-turn (stretchRule what) t after (λ b r. r) e (rw (y, advanced-by-more k (s .place))) (λ r. refl)
 
-  passed : {k b : ℕ} → stretch.Stretch t (Goes what) (s .at) k b → endOf what t s ≡ runAt (rule what) t b (after k)
-  unfolding endOf
+  passed : {k b : ℕ} → stretch.Stretch t (Goes what) (s .at) k b → stretchEnd what t s ≡ runAt (stretchRule what) t b (after k)
+  unfolding stretchEnd
   passed {k} {b} p =
-      ap (runAt (rule what) t (s .at)) (sym (advanced-by-none (s .place)))
-      ∙ stretched (rule what) t after (λ b r. r) (Goes what) (s .at) b (λ k b c w h l. plain k b c w) p (omega arith)
+      ap (runAt (stretchRule what) t (s .at)) (sym (advanced-by-none (s .place)))
+      ∙ stretched (stretchRule what) t after (λ b r. r) (Goes what) (s .at) b (λ k b c w h l. plain k b c w) p (omega arith)
 
-  ended : {k b : ℕ} → Ends what t (s .at) k b → endOf what t s ≡ cursor b (after k)
+  ended : {k b : ℕ} → Ends what t (s .at) k b → stretchEnd what t s ≡ cursor b (after k)
   ended {k} {b} e = passed (e .passed) ∙ by (lookAt t b) refl
     where
-      by : (x : Look) → lookAt t b ≡ x → runAt (rule what) t b (after k) ≡ cursor b (after k)
-      by (look.Char c w) f = move-over (rule what) t b (after k) (is-over (rule what) t b (after k) f (rw (e .stops c w f)))
-      by look.End f = move-over (rule what) t b (after k) (at-end (rule what) t b (after k) f)
+      by : (x : Look) → lookAt t b ≡ x → runAt (stretchRule what) t b (after k) ≡ cursor b (after k)
+      by (look.Char c w) f = move-over (stretchRule what) t b (after k) (is-over (stretchRule what) t b (after k) f (rw (e .stops c w f)))
+      by look.End f = move-over (stretchRule what) t b (after k) (at-end (stretchRule what) t b (after k) f)
 
 -- ---- where it ends: at its start or behind it, within the text
 module _ (what : Stretch) (t : List ℕ) where
   abbrev Reached : ℕ → Position → Type 0
-  Reached at p = (at ≤ runAt (rule what) t at p .at) × (at ≤ length t → runAt (rule what) t at p .at ≤ length t)
+  Reached at p = (at ≤ runAt (stretchRule what) t at p .at) × (at ≤ length t → runAt (stretchRule what) t at p .at ≤ length t)
 
   every : (at : ℕ) (p : Position) → Reached at p
   every =
       by-chars t (λ at. (p : Position) → Reached at p)
-      (λ at e p. rw (move-over (rule what) t at p (at-end (rule what) t at p e)) (omega arith, λ h. h))
+      (λ at e p. rw (move-over (stretchRule what) t at p (at-end (stretchRule what) t at p e)) (omega arith, λ h. h))
       (λ at c w e ih p. turned at c w e ih p (goesOn what c) refl)
     where
       turned : (at c w : ℕ) → lookAt t at ≡ look.Char c w → ((p : Position) → Reached (at + w) p) → (p : Position) (b : Bool) → goesOn what c ≡ b → Reached at p
       turned at c w e ih p true y =
           let h = at-width t at e in
           let r = ih (advanced p) in
-          rw (move-on (rule what) t at p {n = tt} {s′ = advanced p} (one-on (rule what) t at p e (rw y))) (omega (arith, r .0), λ l. r .1 (h .1))
-      turned at c w e ih p false n = rw (move-over (rule what) t at p {r = cursor at p} (is-over (rule what) t at p e (rw n))) (omega arith, λ h. h)
+          rw (move-on (stretchRule what) t at p {n = tt} {s′ = advanced p} (one-on (stretchRule what) t at p e (rw y))) (omega (arith, r .0), λ l. r .1 (h .1))
+      turned at c w e ih p false n = rw (move-over (stretchRule what) t at p {r = cursor at p} (is-over (stretchRule what) t at p e (rw n))) (omega arith, λ h. h)
 
-  pub end-reached : (s : Cursor) → (s .at ≤ endOf what t s .at) × (s .at ≤ length t → endOf what t s .at ≤ length t)
-  unfolding endOf
+  pub end-reached : (s : Cursor) → (s .at ≤ stretchEnd what t s .at) × (s .at ≤ length t → stretchEnd what t s .at ≤ length t)
+  unfolding stretchEnd
   end-reached s = every (s .at) (s .place)
 
   pub is-end : {v : Stretch} → what ≡ v → (s : Cursor) {k b : ℕ} → Ends v t (s .at) k b → {r : Cursor} → r ≡ cursor b (advancedBy k (s .place))
-      → (r ≡ endOf what t s) × ((s .at ≤ r .at) × (s .at ≤ length t → r .at ≤ length t))
+      → (r ≡ stretchEnd what t s) × ((s .at ≤ r .at) × (s .at ≤ length t → r .at ≤ length t))
   is-end m s {k} {b} e q =
       let f : Ends what t (s .at) k b = rw m e in
       let z = q ∙ sym (ended what t s f) in

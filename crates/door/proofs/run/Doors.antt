@@ -3,29 +3,29 @@ use Prim.Native.Nat.{ℕ, _≤_, _<_}
 use native.Mathlib.Omega.{arith}
 use mathlib.Core.Bool.{Bool, true, false}
 use mathlib.Core.List.{List}
-use mathlib.Core.Path.{_≡_, refl}
-use lib.Dec.{ltb}
+use mathlib.Core.Path.{_≡_, refl, _∙_}
+use lib.Dec.{eqb}
 use lib.ListN.{length}
-use borrow.Author.Tests.{lt-ltb, le-ltb, ltb-false}
+use borrow.Author.Tests.{eq-eqb, ne-eqb, eqb-true}
 use Rattle.basis.specs.Pick.{pick}
 use Rattle.utf8.specs.Table.{well}
 use Rattle.book.specs.Book.{good, checkOf}
 use Rattle.book.proofs.Checks.{check-good}
+use Rattle.door.specs.Door.{textOf}
 use Rattle.door.specs.RunDoor.{refusesOf}
+use Rattle.door.proofs.Doors.{text-long, text-admitted}
 
 module _ (t book : List ℕ) where
-  pub too-long : 16777216 < length t → refusesOf t book ≡ 2
+  pub text-first : (textOf t ≡ 0 → ⊥) → refusesOf t book ≡ textOf t
   unfolding refusesOf
-  too-long h = rw (lt-ltb 16777216 (length t) h)
+  text-first n = rw (ne-eqb (textOf t) 0 n)
 
-  module _ (h : length t ≤ 16777216) where
-    pub not-utf8 : well t ≡ false → refusesOf t book ≡ 1
-    unfolding refusesOf
-    not-utf8 n = rw (le-ltb 16777216 (length t) h, n)
+  pub by-the-book : textOf t ≡ 0 → refusesOf t book ≡ checkOf book
+  unfolding refusesOf
+  by-the-book z = rw (eq-eqb (textOf t) 0 z)
 
-    pub by-the-book : well t ≡ true → refusesOf t book ≡ checkOf book
-    unfolding refusesOf
-    by-the-book y = rw (le-ltb 16777216 (length t) h, y)
+  pub too-long : 16777216 < length t → refusesOf t book ≡ 2
+  too-long h = text-first (λ z. omega (arith, z, text-long t h)) ∙ text-long t h
 
   -- what is let in: a short script, well formed, and a good book
   pub record Admitted : Type 0 where
@@ -35,9 +35,8 @@ module _ (t book : List ℕ) where
 
   pub admitted : refusesOf t book ≡ 0 → Admitted
   unfolding refusesOf
-  admitted e = go (ltb 16777216 (length t)) (well t) refl refl e
+  admitted e = go (eqb (textOf t) 0) refl e
     where
-      go : (a b : Bool) → ltb 16777216 (length t) ≡ a → well t ≡ b → _≡_ {A = ℕ} (pick a 2 (pick b (checkOf book) 1)) 0 → Admitted
-      go true b p q z = absurd (omega arith)
-      go false false p q z = absurd (omega arith)
-      go false true p q z = record { short = ltb-false 16777216 (length t) p; formed = q; fair = check-good book (checkOf book) refl z }
+      go : (a : Bool) → eqb (textOf t) 0 ≡ a → pick a (checkOf book) (textOf t) ≡ 0 → Admitted
+      go false p z = absurd (let q = rw z at p in let n : _≡_ {A = ℕ} 0 1 = cc in omega arith)
+      go true p z = let text = text-admitted t (eqb-true (textOf t) 0 p) in record { short = text .short; formed = text .formed; fair = check-good book (checkOf book) refl z }

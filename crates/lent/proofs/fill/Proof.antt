@@ -44,7 +44,7 @@ fill-spec =
     (λ c. search needs)
     returns-2
     (λ c. (search needs, refl, rw (length-replicate _ _) (omega arith), refl))
-    (λ c. omega (arith, length-replicate (c .before .before .before .before .args .n) (c .before .before .before .before .args .b)))
+    (λ c. let given = c .before .before .before .before .args in omega (arith, length-replicate (given .n) (given .b)))
     (λ c. search needs)
     (λ c. search needs)
     (λ c. search needs)

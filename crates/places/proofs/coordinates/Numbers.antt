@@ -8,21 +8,21 @@ use Rattle.basis.proofs.Cases.{pick-cases}
 use Rattle.position.specs.Place.{none, given, isNone, lineNumber, columnNumber}
 use Rattle.position.specs.declared.Position.{Position}
 use Rattle.position.proofs.Moves.{only-none}
-use Rattle.places.specs.Coordinates.{newOf, numbered, lineOf, positionOf, unwrapOr}
+use Rattle.places.specs.Coordinates.{newOf, numbered, lineOption, positionOption, unwrapOr}
 use Rattle.places.specs.declared.coordinates.Placed.the-variants.{At, Refused}
 use Rattle.places.specs.declared.coordinates.Coordinate.{Coordinate}
 use Rattle.places.specs.declared.coordinates.Coordinate.the-variants.{Some, None}
 
 module _ (p : Position) where
-  pub line-number : unwrapOr (lineOf p) 0 ≡ lineNumber p
-  unfolding lineOf numbered unwrapOr lineNumber none
+  pub line-number : unwrapOr (lineOption p) 0 ≡ lineNumber p
+  unfolding lineOption numbered unwrapOr lineNumber none
   line-number =
       pick-cases (λ (x : Coordinate). unwrapOr x 0 ≡ lineNumber p) (isNone p) None (Some (lineNumber p))
       (λ h. sym (ap lineNumber (only-none p h)))
       (λ h. refl)
 
-  pub column-number : unwrapOr (positionOf p) 0 ≡ columnNumber p
-  unfolding positionOf numbered unwrapOr columnNumber none
+  pub column-number : unwrapOr (positionOption p) 0 ≡ columnNumber p
+  unfolding positionOption numbered unwrapOr columnNumber none
   column-number =
       pick-cases (λ (x : Coordinate). unwrapOr x 0 ≡ columnNumber p) (eqb (columnNumber p) 0) None (numbered p (columnNumber p))
       (λ z. sym (eqb-true (columnNumber p) 0 z))
@@ -31,8 +31,8 @@ module _ (p : Position) where
       (λ h. refl))
 
   -- a place that is not NONE has a line
-  pub line-some : isNone p ≡ false → lineOf p ≡ Some (lineNumber p)
-  unfolding lineOf numbered
+  pub line-some : isNone p ≡ false → lineOption p ≡ Some (lineNumber p)
+  unfolding lineOption numbered
   line-some h = rw h
 
 -- a new place is the one given, and line 0 is refused

@@ -47,7 +47,7 @@ word-spec =
     (λ c. omega (arith, c .before .before .before .loop-test .taken))
     (λ c. omega (arith, c .before .before .before .loop-test .taken))
     loop-again
-    (λ c. c .before .before .before .before .loop .inv .1)
+    (λ c. let test = c .before .before .before in test .before .loop .inv .1)
     returns
     (λ c. c .before .loop .inv .1)
     (λ c. ends-there Word _ (c .before .loop .inv .0) (look-past _ _ (c .loop-test .left))))

@@ -1,21 +1,17 @@
 -- The questions of the definition, in its order.
 use mathlib.Core.Path.{sym, _∙_}
 use borrow.Author.Needs.{needs}
-use Rattle.door.proofs.run.Doors.{too-long, not-utf8, by-the-book}
+use Rattle.door.proofs.run.Doors.{text-first, by-the-book}
 use Rattle.door.proofs.run.refuses.Statement.{statement}
 use Rattle.door.proofs.run.refuses.Tie as tie
 
-returns-2 : tie.Need-returns-2
-returns-2 c =
-    let formed = c .before in
-    c .check2 .ensures ∙ sym (by-the-book _ _ (formed .before .before .if1 .left) (sym (formed .before .check .ensures) ∙ formed .if2 .taken))
+text-returns : tie.Need-returns
+text-returns c = let text = c .before in text .text .ensures ∙ sym (text-first _ _ (λ z. c .if1 .taken (text .text .ensures ∙ z)))
+
+book-returns : tie.Need-returns-2
+book-returns c =
+    let good = c .before in
+    c .check .ensures ∙ sym (by-the-book _ _ (sym (good .before .text .ensures) ∙ good .if1 .left))
 
 pub refuses-spec : {M : Type 1} → statement M
-refuses-spec =
-    tie.close
-    (tie.spec
-    (λ c. sym (too-long _ _ (c .if1 .taken)))
-    (λ c κs. search needs)
-    (λ c κs. search needs)
-    returns-2
-    (λ c. sym (not-utf8 _ _ (c .before .before .if1 .left) (sym (c .before .check .ensures) ∙ c .if2 .left))))
+refuses-spec = tie.close (tie.spec (λ c κs. search needs) text-returns (λ c κs. search needs) book-returns)

@@ -2,12 +2,12 @@
 use borrow.Author.Needs.{needs}
 use mathlib.Core.Path.{sym, _∙_}
 use borrow.Author.Tests.{eq-eqb, ne-eqb}
-use Rattle.places.specs.Coordinates.{positionOf}
+use Rattle.places.specs.Coordinates.{positionOption}
 use Rattle.places.proofs.coordinates.position.Statement.{statement}
 use Rattle.places.proofs.coordinates.position.Tie as tie
 
 pub position-spec : {M : Type 1} → statement M
-unfolding positionOf
+unfolding positionOption
 position-spec = tie.close
     (tie.spec
     (λ c κs. search needs)

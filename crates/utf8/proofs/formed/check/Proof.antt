@@ -37,6 +37,12 @@ module _ (c : tie.After-width Inv-loop μ-loop) where
     room : (1 ≤ w) × (top .loop .at + w ≤ length text) × (w ≤ 4)
     room = at-width text (top .loop .at) (found .1)
 
+ascii-again : tie.Need-loop-again Inv-loop μ-loop
+ascii-again c =
+    let start = c .before .before .before .before in
+    let b = c .behind-ascii .ensures in
+    (b .1 .ends, start .loop .inv .1 ∙ well-ascii _ _ (b .0) (b .1))
+
 returns : tie.Need-returns Inv-loop μ-loop
 returns c =
     let k = c .before in
@@ -53,7 +59,7 @@ check-spec =
     (λ c. search needs)
     (λ c κs. search needs)
     (λ c. let b = c .behind-ascii .ensures in omega (arith, b .0, b .1 .ends))
-    (λ c. let b = c .behind-ascii .ensures in (b .1 .ends, c .before .before .before .before .loop .inv .1 ∙ well-ascii _ _ (b .0) (b .1)))
+    ascii-again
     (λ c κs. search needs)
     returns
     (λ c. omega (arith, room (c .before) (c .if2 .left)))

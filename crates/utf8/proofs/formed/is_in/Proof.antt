@@ -10,7 +10,7 @@ use borrow.Author.Tests.{le-leb, lt-leb}
 use Rattle.basis.specs.Pick.{both}
 use Rattle.basis.proofs.Bytes.{here, past}
 use Rattle.utf8.specs.Table.{_‥_}
-use Rattle.utf8.specs.Widths.{fits}
+use Rattle.utf8.specs.Widths.{fitsRow}
 use Rattle.utf8.proofs.formed.is_in.Statement.{statement}
 use Rattle.utf8.proofs.formed.is_in.Tie as tie
 
@@ -19,16 +19,16 @@ module _ (s : List ℕ) (at low high : ℕ) where
   alone true = refl
   alone false = refl
 
-  from-low : at < length s → low ≤ getD s at 0 → leb (getD s at 0) high ≡ fits (low ‥ high ∷ []) (drop at s)
-  unfolding fits
+  from-low : at < length s → low ≤ getD s at 0 → leb (getD s at 0) high ≡ fitsRow (low ‥ high ∷ []) (drop at s)
+  unfolding fitsRow
   from-low h g = rw (here s at h, le-leb low (getD s at 0) g) (sym (alone (leb (getD s at 0) high)))
 
-  below-low : at < length s → getD s at 0 < low → false ≡ fits (low ‥ high ∷ []) (drop at s)
-  unfolding fits
+  below-low : at < length s → getD s at 0 < low → false ≡ fitsRow (low ‥ high ∷ []) (drop at s)
+  unfolding fitsRow
   below-low h g = rw (here s at h, lt-leb low (getD s at 0) g)
 
-  no-byte : length s ≤ at → false ≡ fits (low ‥ high ∷ []) (drop at s)
-  unfolding fits
+  no-byte : length s ≤ at → false ≡ fitsRow (low ‥ high ∷ []) (drop at s)
+  unfolding fitsRow
   no-byte h = rw (past s at h)
 
 pub is-in-spec : {M : Type 1} → statement M
