@@ -8,10 +8,10 @@ use lib.Dec.{eqb, leb}
 use lib.ListN.{length}
 use borrow.Author.Tests.{le-leb, lt-leb, not-true, not-false}
 use Rattle.basis.specs.Pick.{pick}
-use Rattle.book.specs.Contents.{count, bodies, words, enough}
+use Rattle.book.specs.Contents.{wordCount, bodies, words, enough}
 use Rattle.book.specs.Book.{few, runsOn, allFit, rising, good, checkOf}
 
-few-is : (book : List ℕ) {n : ℕ} → n ≡ count book → few book ≡ leb n 512
+few-is : (book : List ℕ) {n : ℕ} → n ≡ wordCount book → few book ≡ leb n 512
 unfolding few
 few-is book e = rw e
 
@@ -20,7 +20,7 @@ module _ (book : List ℕ) where
   unfolding checkOf good
   not-enough g = rw g
 
-  module _ (y : enough book ≡ true) (n : ℕ) (c : n ≡ count book) where
+  module _ (y : enough book ≡ true) (n : ℕ) (c : n ≡ wordCount book) where
     pub too-many : 512 < n → 14 ≡ checkOf book
     unfolding checkOf good
     too-many g = rw (y, few-is book c, lt-leb n 512 g)

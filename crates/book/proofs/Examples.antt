@@ -5,8 +5,13 @@ use mathlib.Core.List.{List, [], _∷_, map}
 use mathlib.Core.Path.{_≡_, refl}
 use Rattle.basis.specs.Words.{word}
 use Rattle.book.specs.Order.{compared, below}
-use Rattle.book.specs.Contents.{u16At, count, startAt, sizeAt, wordAt, wordsFrom, words, enough}
+use Rattle.book.specs.Contents.{u16At, wordCount, startAt, sizeAt, wordAt, wordsFrom, words, enough}
 use Rattle.book.specs.Book.{few, runsOn, ascii, sized, flagged, fit, allFit, belowNext, rising, good, checkOf}
+
+-- what an example of a book computes with: to unfold this is to unfold all that its line names
+unfoldable pub book-computes : Unit {0}
+unfolding word compared below u16At wordCount startAt sizeAt wordAt wordsFrom words enough few runsOn ascii sized flagged fit allFit belowNext rising good checkOf
+book-computes = tt
 
 -- the empty book
 abbrev pub empty : List ℕ
@@ -32,7 +37,7 @@ abbrev pub goods : List (List ℕ)
 goods = empty ∷ house ∷ office ∷ one 10 3 (word "abcdefghij") ∷ one 1 0 (0x7F ∷ []) ∷ two 1 1 2 (word "aab") ∷ []
 
 pub good-books : map checkOf goods ≡ 0 ∷ 0 ∷ 0 ∷ 0 ∷ 0 ∷ 0 ∷ []
-unfolding word compared below u16At count startAt sizeAt wordAt wordsFrom words enough few runsOn ascii sized flagged fit allFit belowNext rising good checkOf
+unfolding book-computes
 good-books = refl
 
 -- bad books of no count, half a count, a row cut short, a body cut short
@@ -57,10 +62,10 @@ unsorted = two 1 1 1 (word "aa") ∷ two 1 1 1 (word "ba") ∷ two 2 2 1 (word "
 
 pub bad-books : map (map checkOf) (shorts ∷ longs ∷ gaps ∷ unfits ∷ unsorted ∷ [])
     ≡ (14 ∷ 14 ∷ 14 ∷ 14 ∷ []) ∷ (14 ∷ 14 ∷ []) ∷ (14 ∷ 14 ∷ 14 ∷ []) ∷ (14 ∷ 14 ∷ 14 ∷ 14 ∷ []) ∷ (14 ∷ 14 ∷ 14 ∷ []) ∷ []
-unfolding word compared below u16At count startAt sizeAt wordAt wordsFrom words enough few runsOn ascii sized flagged fit allFit belowNext rising good checkOf
+unfolding book-computes
 bad-books = refl
 
 -- 512 words are few enough, 513 are not
 pub most-words : map few ((0 ∷ 2 ∷ []) ∷ (1 ∷ 2 ∷ []) ∷ []) ≡ true ∷ false ∷ []
-unfolding u16At count few
+unfolding u16At wordCount few
 most-words = refl

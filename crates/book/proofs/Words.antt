@@ -12,20 +12,20 @@ use Rattle.basis.proofs.Bounds.{split}
 use Rattle.book.specs.Order.{compared, below}
 use Rattle.book.specs.declared.order.Order.{Order}
 use Rattle.book.specs.declared.order.Order.the-variants.{Less, Equal, Greater}
-use Rattle.book.specs.Contents.{count, bodies, startAt, sizeAt, wordAt, wordsFrom, words}
+use Rattle.book.specs.Contents.{wordCount, bodies, startAt, sizeAt, wordAt, wordsFrom, words}
 use Rattle.book.proofs.contents.Words.{from-here, from-past, from-start}
 use Rattle.book.specs.Book.{runsOn, fit, allFit, belowNext, rising}
 
 -- the first k of n words run on, up to the index at
 pub record Running (book : List ℕ) (n at k : ℕ) : Type 0 where
-  pub all : n ≡ count book
+  pub all : n ≡ wordCount book
   pub some : n ≤ 512
   pub within : k ≤ n
   pub small : at ≤ 2 + 4 * n + 255 * k
   pub rest : runsOn (length book) (bodies book) (words book) ≡ runsOn (length book) at (wordsFrom book k (n - k))
 
 module _ (book : List ℕ) (n : ℕ) where
-  pub running-start : n ≡ count book → n ≤ 512 → Running book n (2 + 4 * n) 0
+  pub running-start : n ≡ wordCount book → n ≤ 512 → Running book n (2 + 4 * n) 0
   running-start e h = record {
     all = e;
     some = h;
@@ -56,12 +56,12 @@ module _ (book : List ℕ) (n : ℕ) where
 
 -- the first k of n words are fit
 pub record Fitting (book : List ℕ) (n k : ℕ) : Type 0 where
-  pub all : n ≡ count book
+  pub all : n ≡ wordCount book
   pub within : k ≤ n
   pub rest : allFit (words book) ≡ allFit (wordsFrom book k (n - k))
 
 module _ (book : List ℕ) (n : ℕ) where
-  pub fitting-start : n ≡ count book → Fitting book n 0
+  pub fitting-start : n ≡ wordCount book → Fitting book n 0
   fitting-start e = record { all = e; within = omega arith; rest = ap allFit (from-start book e) }
 
   module _ (k : ℕ) (r : Fitting book n k) where
@@ -80,12 +80,12 @@ module _ (book : List ℕ) (n : ℕ) where
 
 -- the first k + 1 of n words rise
 pub record Mounting (book : List ℕ) (n k : ℕ) : Type 0 where
-  pub all : n ≡ count book
+  pub all : n ≡ wordCount book
   pub within : k ≤ n
   pub rest : rising (words book) ≡ rising (wordsFrom book k (n - k))
 
 module _ (book : List ℕ) (n : ℕ) where
-  pub mounting-start : n ≡ count book → Mounting book n 0
+  pub mounting-start : n ≡ wordCount book → Mounting book n 0
   mounting-start e = record { all = e; within = omega arith; rest = ap rising (from-start book e) }
 
   module _ (k : ℕ) (r : Mounting book n k) where

@@ -1,14 +1,14 @@
 -- Texts compared by bytes: the order in which a word book's words rise (document 01, Word book).
-use Prim.Native.Nat.{ℕ}
 use mathlib.Core.Bool.{Bool, true, false}
-use mathlib.Core.List.{List, [], _∷_}
+use mathlib.Core.List.{[], _∷_}
 use lib.Dec.{ltb}
+use Rattle.basis.specs.Types.{Text}
 use Rattle.basis.specs.Pick.{pick}
 use Rattle.book.specs.declared.order.Order.{Order}
 use Rattle.book.specs.declared.order.Order.the-variants.{Less, Equal, Greater}
 
 -- how the first text stands to the second: the first byte that differs decides, and a proper front is less than the whole
-unfoldable pub compared : List ℕ → List ℕ → Order
+unfoldable pub compared : Text → Text → Order
 compared [] [] = Equal
 compared [] (y ∷ ys) = Less
 compared (x ∷ xs) [] = Greater
@@ -27,9 +27,9 @@ isEqual Equal = true
 isEqual Greater = false
 
 -- the first text is below the second
-unfoldable pub below : List ℕ → List ℕ → Bool
+unfoldable pub below : Text → Text → Bool
 below xs ys = isLess (compared xs ys)
 
 -- the two texts are the same
-unfoldable pub same : List ℕ → List ℕ → Bool
+unfoldable pub same : Text → Text → Bool
 same xs ys = isEqual (compared xs ys)

@@ -2,7 +2,7 @@
 ghost use mathlib.Core.Path.{_≡_};
 ghost use Prim.Native.Nat.{_+_, _<_, _≤_};
 ghost use lib.ListN.{length};
-ghost use Rattle.book.specs.Contents.{u16At, count, bodies, startAt, wordAt, rowsOf, rowOf};
+ghost use Rattle.book.specs.Contents.{u16At, wordCount, bodies, startAt, wordAt, rowsOf, rowOf};
 
 // How many rows the contents have, or that the book is too short for them.
 pub enum Rows {
@@ -28,7 +28,7 @@ fn u16_at(book: &[u8], i: usize) -> usize
     low + 256 * high
 }
 
-// Inner: how many words the book says it has, where it has bytes for its count and its contents.
+// How many words the book says it has, where it has bytes for its count and its contents.
 pub fn count(book: &[u8]) -> Rows
     ensures { λ r. ⌜ r ≡ rowsOf (now (book .entry)) ⌝ }
 {
@@ -42,9 +42,9 @@ pub fn count(book: &[u8]) -> Rows
     Rows::Counted(n)
 }
 
-// Inner: word k's row.
+// Word k's row.
 pub fn row_at(book: &[u8], k: usize) -> Row
-    requires { ⌜ (k < count (now book)) × (bodies (now book) ≤ length (now book)) ⌝ }
+    requires { ⌜ (k < wordCount (now book)) × (bodies (now book) ≤ length (now book)) ⌝ }
     ensures { λ r. ⌜ r ≡ rowOf (now (book .entry)) k ⌝ }
     ensures { λ r. ⌜ (r .start < 524288) × (r .size < 256) ⌝ }
 {
@@ -60,9 +60,9 @@ pub fn row_at(book: &[u8], k: usize) -> Row
     }
 }
 
-// Inner: word k's own part of the book. In a bad book a body may run past the end, and is cut there.
+// Word k's own part of the book. In a bad book a body may run past the end, and is cut there.
 pub fn text_at<'a>(book: &'a [u8], k: usize) -> &'a [u8]
-    requires { ⌜ (k < count (now book)) × (bodies (now book) ≤ length (now book)) ⌝ }
+    requires { ⌜ (k < wordCount (now book)) × (bodies (now book) ≤ length (now book)) ⌝ }
     ensures { λ r. ⌜ now r ≡ wordAt (now (book .entry)) k .text ⌝ }
     ensures { λ r. ⌜ (startAt (now (book .entry)) k ≤ length (now (book .entry)) → r .ptr ≡ (book .entry .ptr .0, book .entry .ptr .1 + startAt (now (book .entry)) k)) ⌝ }
 {

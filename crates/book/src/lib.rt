@@ -5,14 +5,15 @@ pub mod order;
 ghost use mathlib.Core.Path.{_≡_};
 ghost use Prim.Native.Nat.{_<_, _≤_};
 ghost use lib.ListN.{length};
-ghost use Rattle.book.specs.Contents.{count, bodies, wordAt, words};
+ghost use Rattle.book.specs.Contents.{wordCount, bodies, wordAt, words};
 ghost use Rattle.book.specs.Book.{runsOn, ascii, fit, allFit, rising, checkOf};
 use crate::contents::Rows;
 use crate::order::Order;
+use fault::Fault;
 
 // Whether each body starts where the one before it ends, and the last ends at the book's end.
 fn runs_on(book: &[u8], n: usize) -> bool
-    requires { ⌜ (n ≡ count (now book)) × (n ≤ 512) × (bodies (now book) ≤ length (now book)) ⌝ }
+    requires { ⌜ (n ≡ wordCount (now book)) × (n ≤ 512) × (bodies (now book) ≤ length (now book)) ⌝ }
     ensures { λ r. ⌜ r ≡ runsOn (length (now (book .entry))) (bodies (now (book .entry))) (words (now (book .entry))) ⌝ }
 {
     let end = book.len();
@@ -47,7 +48,7 @@ fn is_ascii(text: &[u8]) -> bool
 
 // Whether word k has a right length, right flags, and ASCII bytes.
 fn is_fit(book: &[u8], k: usize) -> bool
-    requires { ⌜ (k < count (now book)) × (bodies (now book) ≤ length (now book)) ⌝ }
+    requires { ⌜ (k < wordCount (now book)) × (bodies (now book) ≤ length (now book)) ⌝ }
     ensures { λ r. ⌜ r ≡ fit (wordAt (now (book .entry)) k) ⌝ }
 {
     let row = contents::row_at(book, k);
@@ -67,7 +68,7 @@ fn is_fit(book: &[u8], k: usize) -> bool
 
 // Whether every word is fit.
 fn all_fit(book: &[u8], n: usize) -> bool
-    requires { ⌜ (n ≡ count (now book)) × (bodies (now book) ≤ length (now book)) ⌝ }
+    requires { ⌜ (n ≡ wordCount (now book)) × (bodies (now book) ≤ length (now book)) ⌝ }
     ensures { λ r. ⌜ r ≡ allFit (words (now (book .entry))) ⌝ }
 {
     let mut k = 0;
@@ -83,7 +84,7 @@ fn all_fit(book: &[u8], n: usize) -> bool
 
 // Whether each word is below the one behind it.
 fn is_rising(book: &[u8], n: usize) -> bool
-    requires { ⌜ (n ≡ count (now book)) × (bodies (now book) ≤ length (now book)) ⌝ }
+    requires { ⌜ (n ≡ wordCount (now book)) × (bodies (now book) ≤ length (now book)) ⌝ }
     ensures { λ r. ⌜ r ≡ rising (words (now (book .entry))) ⌝ }
 {
     let mut k = 0;
@@ -102,19 +103,19 @@ pub fn check(book: &[u8]) -> u8
     ensures { λ r. ⌜ r ≡ checkOf (now (book .entry)) ⌝ }
 {
     let Rows::Counted(n) = contents::count(book) else {
-        return 14;
+        return Fault::BAD_BOOK;
     };
     if 512 < n {
-        return 14;
+        return Fault::BAD_BOOK;
     }
     if !runs_on(book, n) {
-        return 14;
+        return Fault::BAD_BOOK;
     }
     if !all_fit(book, n) {
-        return 14;
+        return Fault::BAD_BOOK;
     }
     if !is_rising(book, n) {
-        return 14;
+        return Fault::BAD_BOOK;
     }
     0
 }

@@ -9,7 +9,7 @@ pub enum Order {
     Greater,
 }
 
-// Inner: compares two texts.
+// Compares two texts.
 pub fn compare(v: &[u8], w: &[u8]) -> Order
     ensures { λ r. ⌜ r ≡ compared (now (v .entry)) (now (w .entry)) ⌝ }
 {

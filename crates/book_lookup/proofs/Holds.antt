@@ -12,15 +12,15 @@ use Rattle.basis.specs.Pick.{pick}
 use Rattle.basis.proofs.Bounds.{split}
 use Rattle.basis.proofs.Cases.{pick-cases, not-both, both-left, both-right}
 use Rattle.book.specs.Order.{compared, isEqual, same}
-use Rattle.book.specs.Contents.{Entry, count, bodies, wordAt, wordsFrom, words, enough}
+use Rattle.book.specs.Contents.{BookWord, wordCount, bodies, wordAt, wordsFrom, words, enough}
 use Rattle.book.specs.Book.{few, runsOn, allFit, rising, good}
-use Rattle.book_lookup.specs.Lookup.{Stands, Hit, hit, none, firstOf, answerOf, answered, notFound, reservedOf}
+use Rattle.book_lookup.specs.Lookup.{Stands, Hit, hit, none, firstHit, flagsAnswer, hitAnswer, notFound, reservedOf}
 use Rattle.book_lookup.specs.Seek.{middle, narrowed, soughtIn, soughtOf}
-use Rattle.book_lookup.specs.Halving.{entryOf, halvedOf}
+use Rattle.book_lookup.specs.Halving.{soughtHit, halvedOf}
 use Rattle.book.specs.declared.order.Order.{Order}
 use Rattle.book.specs.declared.order.Order.the-variants.{Less, Equal, Greater}
-use Rattle.book_lookup.specs.declared.seek.Found.{Found}
-use Rattle.book_lookup.specs.declared.seek.Found.the-variants.{At, Nothing}
+use Rattle.book_lookup.specs.declared.seek.SoughtWord.{SoughtWord}
+use Rattle.book_lookup.specs.declared.seek.SoughtWord.the-variants.{At, Nothing}
 use Rattle.book.proofs.order.Orders.{not-less-greater, not-less-equal, not-greater-equal, equal-self, equal-is, less-less}
 use Rattle.book_lookup.proofs.Sorted.{text, sorted}
 
@@ -30,16 +30,16 @@ module _ (book w : List ℕ) where
   Other i = compared (text book i) w ≡ Equal → ⊥
 
   -- what a search from lo up to hi should answer
-  abbrev Right : ℕ → ℕ → Found → Type 0
+  abbrev Right : ℕ → ℕ → SoughtWord → Type 0
   Right lo hi (At k) = (lo ≤ k) × (k < hi) × (compared (text book k) w ≡ Equal)
   Right lo hi Nothing = (i : ℕ) → lo ≤ i → i < hi → Other i
 
   -- a search of a part, where the word is not in the rest
-  right-before : (lo mid hi : ℕ) (f : Found) → mid ≤ hi → Right lo mid f → ((i : ℕ) → mid ≤ i → i < hi → Other i) → Right lo hi f
+  right-before : (lo mid hi : ℕ) (f : SoughtWord) → mid ≤ hi → Right lo mid f → ((i : ℕ) → mid ≤ i → i < hi → Other i) → Right lo hi f
   right-before lo mid hi (At k) h r o = (r .0, omega (arith, r .1), r .2)
   right-before lo mid hi Nothing h r o = λ i l g. ⊎-elim (λ a. r i l a) (λ a. o i a g) (split i mid)
 
-  right-behind : (lo mid hi : ℕ) (f : Found) → lo ≤ mid → Right mid hi f → ((i : ℕ) → lo ≤ i → i < mid → Other i) → Right lo hi f
+  right-behind : (lo mid hi : ℕ) (f : SoughtWord) → lo ≤ mid → Right mid hi f → ((i : ℕ) → lo ≤ i → i < mid → Other i) → Right lo hi f
   right-behind lo mid hi (At k) h r o = (omega (arith, r .0), r .1, r .2)
   right-behind lo mid hi Nothing h r o = λ i l g. ⊎-elim (λ a. o i l a) (λ a. r i a g) (split i mid)
 
@@ -59,7 +59,7 @@ module _ (book w : List ℕ) where
         (λ a. let q : i ≡ mid = omega arith in not-greater-equal c (rw q at p))
         (split mid i)
 
-    in-turn : (lo mid hi : ℕ) (on : ℕ → ℕ → Found) (o : Order) → compared (text book mid) w ≡ o → lo ≤ mid → mid < hi → hi ≤ n
+    in-turn : (lo mid hi : ℕ) (on : ℕ → ℕ → SoughtWord) (o : Order) → compared (text book mid) w ≡ o → lo ≤ mid → mid < hi → hi ≤ n
         → Right (mid + 1) hi (on (mid + 1) hi) → Right lo mid (on lo mid) → Right lo hi (narrowed o lo mid hi on)
     in-turn lo mid hi on Less c l h m r s = right-behind lo (mid + 1) hi (on (mid + 1) hi) (omega arith) r (λ i a g. below-middle mid (omega arith) c i g)
     in-turn lo mid hi on Equal c l h m r s = (l, h, c)
@@ -92,8 +92,8 @@ module _ (book w : List ℕ) where
   is-same i h = rw h
 
   -- the first of n words from k on that is w, where that is word j
-  first-hit : (k n j : ℕ) → k ≤ j → j < k + n → compared (text book j) w ≡ Equal → ((i : ℕ) → k ≤ i → i < j → Other book w i) → firstOf w (wordsFrom book k n) ≡ hit (wordAt book j)
-  unfolding firstOf wordsFrom
+  first-hit : (k n j : ℕ) → k ≤ j → j < k + n → compared (text book j) w ≡ Equal → ((i : ℕ) → k ≤ i → i < j → Other book w i) → firstHit w (wordsFrom book k n) ≡ hit (wordAt book j)
+  unfolding firstHit wordsFrom
   first-hit k zero j l h c o = absurd (omega arith)
   first-hit k (suc n) j l h c o =
       ⊎-elim
@@ -102,14 +102,14 @@ module _ (book w : List ℕ) where
       (split k j)
 
   -- and where none is
-  first-none : (k n : ℕ) → ((i : ℕ) → k ≤ i → i < k + n → Other book w i) → firstOf w (wordsFrom book k n) ≡ none
-  unfolding firstOf wordsFrom
+  first-none : (k n : ℕ) → ((i : ℕ) → k ≤ i → i < k + n → Other book w i) → firstHit w (wordsFrom book k n) ≡ none
+  unfolding firstHit wordsFrom
   first-none k zero o = refl
   first-none k (suc n) o = rw (not-same k (o k (omega arith) (omega arith))) (first-none (k + 1) n (λ i a h. o i (omega arith) (omega arith)))
 
   -- so a right search answers the first
-  first-right : (n : ℕ) → rising (wordsFrom book 0 n) ≡ true → (f : Found) → Right book w 0 n f → firstOf w (wordsFrom book 0 n) ≡ entryOf book f
-  unfolding entryOf
+  first-right : (n : ℕ) → rising (wordsFrom book 0 n) ≡ true → (f : SoughtWord) → Right book w 0 n f → firstHit w (wordsFrom book 0 n) ≡ soughtHit book f
+  unfolding soughtHit
   first-right n e (At k) r = first-hit 0 n k (omega arith) (omega (arith, r .1)) (r .2) earlier
     where
       earlier : (i : ℕ) → 0 ≤ i → i < k → Other book w i
@@ -131,9 +131,9 @@ module _ (book : List ℕ) (g : good book ≡ true) where
   good-rising = both-right (allFit (words book)) _ (both-right (runsOn (length book) (bodies book) (words book)) _ (both-right (few book) _ (both-right (enough book) _ g)))
 
   -- HALVING FINDS THE FIRST ENTRY THAT IS THE WORD
-  pub halved-first : (w : List ℕ) → firstOf w (words book) ≡ entryOf book (soughtOf book w)
+  pub halved-first : (w : List ℕ) → firstHit w (words book) ≡ soughtHit book (soughtOf book w)
   unfolding words soughtOf
-  halved-first w = rw good-enough (first-right book w (count book) good-rising (soughtIn (count book) book w 0 (count book)) (in-right book w (count book) good-rising (count book) 0 (count book) (omega arith) (omega arith)))
+  halved-first w = rw good-enough (first-right book w (wordCount book) good-rising (soughtIn (wordCount book) book w 0 (wordCount book)) (in-right book w (wordCount book) good-rising (wordCount book) 0 (wordCount book) (omega arith) (omega arith)))
 
   -- the lookup with no check is the lookup
   pub halved : (w : List ℕ) → halvedOf book w ≡ reservedOf book w
@@ -144,9 +144,9 @@ module _ (book : List ℕ) (g : good book ≡ true) where
   halved-whole = fun-ext halved
 
   -- each word of a good book is found with its own flags
-  pub own-answer : (k : ℕ) → k < count book → reservedOf book (text book k) ≡ answerOf (wordAt book k .flags)
-  unfolding reservedOf words answered
-  own-answer k h = rw (g, first-hit book (text book k) 0 (count book) k (omega arith) (omega arith) (equal-self (text book k)) (λ i l a. not-less-equal (sorted book (count book) good-rising i k a h)))
+  pub own-answer : (k : ℕ) → k < wordCount book → reservedOf book (text book k) ≡ flagsAnswer (wordAt book k .flags)
+  unfolding reservedOf words hitAnswer
+  own-answer k h = rw (g, first-hit book (text book k) 0 (wordCount book) k (omega arith) (omega arith) (equal-self (text book k)) (λ i l a. not-less-equal (sorted book (wordCount book) good-rising i k a h)))
 
 -- texts that are the same are one
 is-equal : (o : Order) → isEqual o ≡ true → o ≡ Equal
@@ -169,34 +169,34 @@ module _ (w : List ℕ) where
   Some (hit e) = Unit {0}
   Some none = ⊥
 
-  stands-some : (es : List Entry) → Stands w es → Some (firstOf w es)
-  unfolding Stands firstOf
+  stands-some : (es : List BookWord) → Stands w es → Some (firstHit w es)
+  unfolding Stands firstHit
   stands-some [] s = s
-  stands-some (e ∷ es) s = pick-cases Some (same (e .text) w) (hit e) (firstOf w es) (λ t. tt) (λ t. ⊎-elim (λ q. not-both (same-own (e .text) w q) t) (λ r. stands-some es r) s)
+  stands-some (e ∷ es) s = pick-cases Some (same (e .text) w) (hit e) (firstHit w es) (λ t. tt) (λ t. ⊎-elim (λ q. not-both (same-own (e .text) w q) t) (λ r. stands-some es r) s)
 
-  some-stands : (es : List Entry) → Some (firstOf w es) → Stands w es
-  unfolding Stands firstOf
+  some-stands : (es : List BookWord) → Some (firstHit w es) → Stands w es
+  unfolding Stands firstHit
   some-stands [] s = s
   some-stands (e ∷ es) s = go (same (e .text) w) refl s (some-stands es)
     where
-      go : (t : Bool) → same (e .text) w ≡ t → Some (pick t (hit e) (firstOf w es)) → (Some (firstOf w es) → Stands w es) → (e .text ≡ w) ⊎ Stands w es
+      go : (t : Bool) → same (e .text) w ≡ t → Some (pick t (hit e) (firstHit w es)) → (Some (firstHit w es) → Stands w es) → (e .text ≡ w) ⊎ Stands w es
       go true q s r = inl (same-is (e .text) w q)
       go false q s r = inr (r s)
 
-  found-some : (h : Hit) → answered h .found ≡ true → Some h
-  unfolding answered answerOf
+  found-some : (h : Hit) → hitAnswer h .found ≡ true → Some h
+  unfolding hitAnswer flagsAnswer
   found-some (hit e) p = tt
   found-some none p = not-both p refl
 
-  some-found : (h : Hit) → Some h → answered h .found ≡ true
-  unfolding answered answerOf
+  some-found : (h : Hit) → Some h → hitAnswer h .found ≡ true
+  unfolding hitAnswer flagsAnswer
   some-found (hit e) p = refl
   some-found none p = absurd p
 
 pub found-exactly : (book w : List ℕ) → (reservedOf book w .found ≡ true) ↔ ((good book ≡ true) × Stands w (words book))
 unfolding reservedOf
-found-exactly book w = (go (good book) refl, λ h. rw (h .0) (some-found w (firstOf w (words book)) (stands-some w (words book) (h .1))))
+found-exactly book w = (go (good book) refl, λ h. rw (h .0) (some-found w (firstHit w (words book)) (stands-some w (words book) (h .1))))
   where
-    go : (t : Bool) → good book ≡ t → (pick t (answered (firstOf w (words book))) notFound) .found ≡ true → (good book ≡ true) × Stands w (words book)
-    go true g p = (g, some-stands w (words book) (found-some w (firstOf w (words book)) p))
+    go : (t : Bool) → good book ≡ t → (pick t (hitAnswer (firstHit w (words book))) notFound) .found ≡ true → (good book ≡ true) × Stands w (words book)
+    go true g p = (g, some-stands w (words book) (found-some w (firstHit w (words book)) p))
     go false g p = not-both p refl

@@ -3,9 +3,9 @@ mod seek;
 pub mod two_books;
 
 ghost use mathlib.Core.Path.{_≡_};
-ghost use Rattle.book_lookup.specs.Lookup.{answerOf, reservedOf};
+ghost use Rattle.book_lookup.specs.Lookup.{flagsAnswer, reservedOf};
 ghost use Rattle.book_lookup.specs.Halving.{halvedOf};
-use crate::seek::Found;
+use crate::seek::SoughtWord;
 
 // What a book says of a word; the source answers these three as a tuple.
 pub struct Reserved {
@@ -22,7 +22,7 @@ const NOT_FOUND: Reserved = Reserved {
 
 // What flags say of a word that was found.
 fn answer(flags: u8) -> Reserved
-    ensures { λ r. ⌜ r ≡ answerOf flags ⌝ }
+    ensures { λ r. ⌜ r ≡ flagsAnswer flags ⌝ }
 {
     let a = flags % 2 == 1;
     let b = flags / 2 % 2 == 1;
@@ -44,7 +44,7 @@ fn answer(flags: u8) -> Reserved
 pub fn lookup_in(book: &[u8], word: &[u8]) -> Reserved
     ensures { λ r. ⌜ r ≡ halvedOf (now (book .entry)) (now (word .entry)) ⌝ }
 {
-    let Found::At(k) = seek::seek(book, word) else {
+    let SoughtWord::At(k) = seek::seek(book, word) else {
         return NOT_FOUND;
     };
     answer(book::contents::row_at(book, k).flags)

@@ -5,17 +5,17 @@ use book::contents::Rows;
 use book::order::Order;
 
 // Which word of a book a text is.
-pub enum Found {
+pub enum SoughtWord {
     At(usize),
     Nothing,
 }
 
-// Inner: which word of the book a text is, by halving. In a bad book it may miss a word.
-pub(crate) fn seek(book: &[u8], word: &[u8]) -> Found
+// Which word of the book a text is, by halving. In a bad book it may miss a word.
+pub(crate) fn seek(book: &[u8], word: &[u8]) -> SoughtWord
     ensures { λ r. ⌜ r ≡ soughtOf (now (book .entry)) (now (word .entry)) ⌝ }
 {
     let Rows::Counted(n) = book::contents::count(book) else {
-        return Found::Nothing;
+        return SoughtWord::Nothing;
     };
     let mut lo = 0;
     let mut hi = n;
@@ -23,9 +23,9 @@ pub(crate) fn seek(book: &[u8], word: &[u8]) -> Found
         let mid = lo + (hi - lo) / 2;
         match book::order::compare(book::contents::text_at(book, mid), word) {
             Order::Less => lo = mid + 1,
-            Order::Equal => return Found::At(mid),
+            Order::Equal => return SoughtWord::At(mid),
             Order::Greater => hi = mid,
         }
     }
-    Found::Nothing
+    SoughtWord::Nothing
 }

@@ -4,7 +4,7 @@ ghost use Rattle.basis.specs.Pick.{both};
 ghost use Rattle.book.specs.Book.{good};
 ghost use Rattle.book_lookup.specs.Lookup.{foundPart, foundPlace};
 use crate::seek;
-use crate::seek::Found;
+use crate::seek::SoughtWord;
 
 // Whether two books are both good.
 fn both_good(house: &[u8], office: &[u8]) -> bool
@@ -24,8 +24,8 @@ pub fn find<'a>(house: &'a [u8], office: &'a [u8], word: &[u8]) -> &'a [u8]
     if !both_good(house, office) {
         return &house[0..0];
     }
-    let Found::At(k) = seek::seek(house, word) else {
-        let Found::At(j) = seek::seek(office, word) else {
+    let SoughtWord::At(k) = seek::seek(house, word) else {
+        let SoughtWord::At(j) = seek::seek(office, word) else {
             return &house[0..0];
         };
         return book::contents::text_at(office, j);

@@ -16,34 +16,34 @@ use Rattle.chars.specs.Cursors.{cursor}
 use Rattle.door.specs.Door.{doorOf}
 use Rattle.door.proofs.Doors.{admitted}
 use Rattle.fault.specs.Faults.{fault}
-use Rattle.comment.specs.Block.{commentOf, refusesOf, scanBlockCommentOf}
+use Rattle.comment.specs.Block.{commentOf, commentRefuses, scanBlockCommentOf}
 use Rattle.comment.specs.declared.scan.Commented.the-variants.{Done, Refused}
 
 module _ (t : List ℕ) (at : ℕ) (p : Position) (level : ℕ) where
-  pub at-door : {n : ℕ} → n ≡ doorOf t at → (n ≡ 0 → ⊥) → n ≡ refusesOf t at p level
-  unfolding refusesOf
+  pub at-door : {n : ℕ} → n ≡ doorOf t at → (n ≡ 0 → ⊥) → n ≡ commentRefuses t at p level
+  unfolding commentRefuses
   at-door {n} e h = rw (← e, ne-eqb n 0 h)
 
   module _ {n : ℕ} (e : n ≡ doorOf t at) (z : n ≡ 0) where
-    pub off-line : onLine p ≡ false → 3 ≡ refusesOf t at p level
-    unfolding refusesOf
+    pub off-line : onLine p ≡ false → 3 ≡ commentRefuses t at p level
+    unfolding commentRefuses
     off-line f = rw (← e, eq-eqb n 0 z, f)
 
     module _ (f : onLine p ≡ true) where
-      pub no-level : level < 1 → 3 ≡ refusesOf t at p level
-      unfolding refusesOf
+      pub no-level : level < 1 → 3 ≡ commentRefuses t at p level
+      unfolding commentRefuses
       no-level h = rw (← e, eq-eqb n 0 z, f, lt-leb 1 level h)
 
-      pub too-many : 1 ≤ level → 65535 < level → 3 ≡ refusesOf t at p level
-      unfolding refusesOf
+      pub too-many : 1 ≤ level → 65535 < level → 3 ≡ commentRefuses t at p level
+      unfolding commentRefuses
       too-many h g = rw (← e, eq-eqb n 0 z, f, le-leb 1 level h, lt-leb level 65535 g)
 
-      pub let-in : 1 ≤ level → level ≤ 65535 → 0 ≡ refusesOf t at p level
-      unfolding refusesOf
+      pub let-in : 1 ≤ level → level ≤ 65535 → 0 ≡ commentRefuses t at p level
+      unfolding commentRefuses
       let-in h g = rw (← e, eq-eqb n 0 z, f, le-leb 1 level h, le-leb level 65535 g)
 
-  pub nothing-refused : {n : ℕ} → n ≡ refusesOf t at p level → n ≡ 0 → (at ≤ length t) × (1 ≤ level) × (level ≤ 65535)
-  unfolding refusesOf
+  pub nothing-refused : {n : ℕ} → n ≡ commentRefuses t at p level → n ≡ 0 → (at ≤ length t) × (1 ≤ level) × (level ≤ 65535)
+  unfolding commentRefuses
   nothing-refused e z = go (eqb (doorOf t at) 0) (both (onLine p) (within (1 ‥ 65535) level)) refl refl (sym e ∙ z)
     where
       go : (a b : Bool) → eqb (doorOf t at) 0 ≡ a → both (onLine p) (within (1 ‥ 65535) level) ≡ b → _≡_ {A = ℕ} (pick a (pick b 0 3) (doorOf t at)) 0 → (at ≤ length t) × (1 ≤ level) × (level ≤ 65535)
@@ -54,7 +54,7 @@ module _ (t : List ℕ) (at : ℕ) (p : Position) (level : ℕ) where
       go false b q r h = absurd (eqb-false _ _ q h)
 
   -- the answer
-  module _ {n : ℕ} (e : n ≡ refusesOf t at p level) where
+  module _ {n : ℕ} (e : n ≡ commentRefuses t at p level) where
     pub refused : (n ≡ 0 → ⊥) → Refused (fault n p) ≡ scanBlockCommentOf t at p level
     unfolding scanBlockCommentOf
     refused h = rw (← e, ne-eqb n 0 h)

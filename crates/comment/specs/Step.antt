@@ -1,6 +1,6 @@
 -- What the functions of one turn answer.
 use Prim.Native.Nat.{ℕ, _+_, _≤_, _<_}
-use mathlib.Core.List.{List}
+use Rattle.basis.specs.Types.{Text, Code}
 use Rattle.basis.specs.Pick.{pick}
 use Rattle.utf8.specs.Table.{charsAt}
 use Rattle.chars.specs.Cursors.{cursor, eatNextOf}
@@ -8,18 +8,18 @@ use Rattle.chars.specs.Scan.{follows, Move, on, over, moveAt}
 use Rattle.chars.specs.declared.cursor.Cursor.{Cursor}
 use Rattle.chars.specs.declared.cursor.Taken.{Taken}
 use Rattle.chars.specs.declared.cursor.Taken.the-variants.{End}
-use Rattle.comment.specs.Block.{Inside, inside, rule}
+use Rattle.comment.specs.Block.{Inside, inside, commentRule}
 use Rattle.comment.specs.declared.scan.Comment.{Comment}
 use Rattle.comment.specs.declared.scan.Step.{Step}
 use Rattle.comment.specs.declared.scan.Step.the-variants.{On, Over}
 
 -- the next character taken if it is c
-unfoldable pub eatIfOf : List ℕ → Cursor → ℕ → Taken
+unfoldable pub eatIfOf : Text → Cursor → Code → Taken
 eatIfOf t s c = pick (follows c (charsAt t (s .at))) (eatNextOf t s) End
 
 -- the rule's move from where the code stands: the level that is open, and the cursor
-unfoldable pub moveOf : List ℕ → ℕ → Cursor → Move Inside (Unit {0}) Comment
-moveOf t level from = moveAt rule t (from .at) (inside level (from .place))
+unfoldable pub moveOf : Text → ℕ → Cursor → Move Inside (Unit {0}) Comment
+moveOf t level from = moveAt commentRule t (from .at) (inside level (from .place))
 
 -- a move as the code says it
 abbrev pub asStep : Move Inside (Unit {0}) Comment → Step
@@ -27,12 +27,12 @@ asStep (on n at s) = On (s .level) (cursor at (s .place))
 asStep (over c) = Over (c .level) (c .cursor)
 
 -- what a turn in a text of n bytes needs: the level cannot wrap, and the cursor is within the text
-pub record Fine (n level : ℕ) (from : Cursor) : Type 0 where
+pub record LevelFits (n level : ℕ) (from : Cursor) : Type 0 where
   pub low : 1 ≤ level
   pub high : level ≤ 65535 + from .at
   pub within : from .at ≤ n
 
 -- a turn that goes on leaves it so, further on
-abbrev pub Goes : ℕ → Cursor → Step → Type 0
-Goes n from (On level next) = Fine n level next × (from .at < next .at)
-Goes n from (Over level last) = Unit {0}
+abbrev pub TurnFits : ℕ → Cursor → Step → Type 0
+TurnFits n from (On level next) = LevelFits n level next × (from .at < next .at)
+TurnFits n from (Over level last) = Unit {0}

@@ -2,10 +2,6 @@
 ghost use mathlib.Core.Path.{_≡_};
 ghost use Rattle.comment.specs.Doc.{twice, isDocComment};
 
-const SLASH: u8 = 0x2F;
-
-const STAR: u8 = 0x2A;
-
 // Whether a comment begins with a slash and a byte twice, and not three times.
 fn twice(comment: &[u8], b: u8) -> bool
     ensures { λ r. ⌜ r ≡ twice b (now (comment .entry)) ⌝ }
@@ -13,7 +9,7 @@ fn twice(comment: &[u8], b: u8) -> bool
     if comment.len() < 3 {
         return false;
     }
-    if comment[0] != SLASH {
+    if comment[0] != b'/' {
         return false;
     }
     if comment[1] != b {
@@ -32,8 +28,8 @@ fn twice(comment: &[u8], b: u8) -> bool
 pub fn is_doc_comment(comment: &[u8]) -> bool
     ensures { λ r. ⌜ r ≡ isDocComment (now (comment .entry)) ⌝ }
 {
-    if twice(comment, SLASH) {
+    if twice(comment, b'/') {
         return true;
     }
-    twice(comment, STAR)
+    twice(comment, b'*')
 }

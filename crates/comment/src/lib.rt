@@ -3,16 +3,15 @@ pub mod doc;
 pub mod scan;
 
 ghost use mathlib.Core.Path.{_≡_};
-ghost use Rattle.comment.specs.Block.{refusesOf, scanBlockCommentOf};
+ghost use Rattle.comment.specs.Block.{commentRefuses, scanBlockCommentOf};
 use crate::scan::Commented;
 use chars::cursor::Cursor;
 use fault::Fault;
-use fault::Part;
 use position::Position;
 
 // What the arguments of a scan refuse, by number; 0 for nothing.
 fn refuses(text: &[u8], at: usize, place: Position, level: usize) -> u8
-    ensures { λ r. ⌜ r ≡ refusesOf (now (text .entry)) at place level ⌝ }
+    ensures { λ r. ⌜ r ≡ commentRefuses (now (text .entry)) at place level ⌝ }
 {
     let number = door::door(text, at);
     if number != 0 {
@@ -36,11 +35,7 @@ pub fn scan_block_comment(text: &[u8], at: usize, place: Position, level: usize)
 {
     let number = refuses(text, at, place, level);
     if number != 0 {
-        return Commented::Refused(Fault {
-            number,
-            place,
-            part: Part::NONE,
-        });
+        return Commented::Refused(Fault::at(number, place));
     }
     Commented::Done(scan::scan(text, Cursor { at, place }, level))
 }

@@ -1,18 +1,15 @@
-// Block comments, which nest: the scan of the Rust's `scan_block_comment`. The entry is `block_comment`.
+// Block comments, which nest: the scan of the Rust's `scan_block_comment`, from a place that was found good.
 ghost use mathlib.Core.Path.{_≡_};
 ghost use Prim.Native.Nat.{_≤_};
 ghost use lib.ListN.{length};
 ghost use Rattle.comment.specs.Block.{commentOf};
-ghost use Rattle.comment.specs.Step.{eatIfOf, moveOf, asStep, Fine, Goes};
+ghost use Rattle.comment.specs.Step.{eatIfOf, moveOf, asStep, LevelFits, TurnFits};
 use chars::cursor::Cursor;
 use chars::cursor::Taken;
+use classes::marks::LF;
+use classes::marks::SLASH;
+use classes::marks::STAR;
 use fault::Fault;
-
-const SLASH: u32 = 0x2F;
-
-const STAR: u32 = 0x2A;
-
-const LF: u32 = 0x0A;
 
 // The level that is still open, 0 where the comment is closed, and the cursor behind what was taken.
 pub struct Comment {
@@ -47,9 +44,9 @@ fn eat_if(text: &[u8], from: Cursor, c: u32) -> Taken
 
 // Takes a character, or a pair whole.
 fn turn(text: &[u8], level: usize, from: Cursor) -> Step
-    requires { ⌜ Fine (length (now text)) level from ⌝ }
+    requires { ⌜ LevelFits (length (now text)) level from ⌝ }
     ensures { λ r. ⌜ r ≡ asStep (moveOf (now (text .entry)) level from) ⌝ }
-    ensures { λ r. ⌜ Goes (length (now (text .entry))) from r ⌝ }
+    ensures { λ r. ⌜ TurnFits (length (now (text .entry))) from r ⌝ }
 {
     let Taken::Char(c, next) = from.eat_next_and_advance(text) else {
         return Step::Over(level, from);
@@ -77,7 +74,7 @@ fn turn(text: &[u8], level: usize, from: Cursor) -> Step
     Step::On(level, next)
 }
 
-// Inner: the scan of a text from a place, both found good, for a run.
+// The scan of a text from a place, both found good, for a run.
 pub fn scan(text: &[u8], start: Cursor, level: usize) -> Comment
     requires { ⌜ (start .at ≤ length (now text)) × (1 ≤ level) × (level ≤ 65535) ⌝ }
     ensures { λ r. ⌜ r ≡ commentOf (now (text .entry)) start level ⌝ }

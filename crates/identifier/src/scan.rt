@@ -1,16 +1,16 @@
-// Identifiers: the scan of the Rust's `parse_identifier_token`, from a cursor. The entry is `identifier_token`.
+// Identifiers: the scan of the Rust's `parse_identifier_token`, from a start that was found good, under a good book.
 ghost use mathlib.Core.Path.{_≡_};
 ghost use mathlib.Core.Bool.{true};
 ghost use Rattle.book.specs.Book.{good};
-ghost use Rattle.identifier.specs.Identifiers.{kindOf, listed, classOf, identifyOf};
+ghost use Rattle.identifier.specs.Identifiers.{listedKind, classIn, classOf, identifyOf};
 ghost use Rattle.identifier.specs.Told.{faultOf};
 use crate::valid;
 use chars::cursor::Cursor;
 use chars::cursor::Taken;
 use chars::stretch::Stretch;
+use entry::kinds;
 use fault::Fault;
 use fault::Part;
-use position::Position;
 use token::Lookup;
 
 // What stands at a place: its kind, its token, and the cursor behind it.
@@ -18,16 +18,6 @@ pub struct Word {
     pub kind: u8,
     pub token: u8,
     pub cursor: Cursor,
-}
-
-impl Word {
-    pub const NAME: u8 = 1;
-
-    pub const KEYWORD: u8 = 2;
-
-    pub const SYMBOL: u8 = 3;
-
-    pub const RESERVED: u8 = 11;
 }
 
 // A word, or the fault with the cursor that the scan had reached.
@@ -42,11 +32,7 @@ impl Identified {
         ensures { λ r. ⌜ r ≡ faultOf self ⌝ }
     {
         match self {
-            Identified::Found(_) => Fault {
-                number: 0,
-                place: Position::NONE,
-                part: Part::NONE,
-            },
+            Identified::Found(_) => Fault::NONE,
             Identified::Refused(fault, _) => fault,
         }
     }
@@ -60,27 +46,27 @@ enum Class {
 
 // The kind of a listed word: a keyword is of letters, and any other is a symbol.
 fn kind_of(word: &[u8]) -> u8
-    ensures { λ r. ⌜ r ≡ kindOf (now (word .entry)) ⌝ }
+    ensures { λ r. ⌜ r ≡ listedKind (now (word .entry)) ⌝ }
 {
     if word.len() == 0 {
-        return Word::SYMBOL;
+        return kinds::SYMBOL;
     }
     if classes::is_id_first_alphabetic(word[0] as u32) {
-        return Word::KEYWORD;
+        return kinds::KEYWORD;
     }
-    Word::SYMBOL
+    kinds::SYMBOL
 }
 
 // What a text is that no keyword and no symbol is.
 fn unlisted(book: &[u8], word: &[u8]) -> Class
     requires { ⌜ good (now book) ≡ true ⌝ }
-    ensures { λ r. ⌜ r ≡ listed (now (book .entry)) (now (word .entry)) Lookup.None ⌝ }
+    ensures { λ r. ⌜ r ≡ classIn (now (book .entry)) (now (word .entry)) Lookup.None ⌝ }
 {
     if book_lookup::lookup_in(book, word).found {
-        return Class::Is(Word::RESERVED, token::tokens::RESERVED);
+        return Class::Is(kinds::RESERVED, token::tokens::RESERVED);
     }
     if valid::is_valid_identifier(word) {
-        return Class::Is(Word::NAME, token::tokens::IDENTIFIER);
+        return Class::Is(kinds::NAME, token::tokens::IDENTIFIER);
     }
     Class::Malformed
 }
@@ -96,34 +82,21 @@ fn class_of(book: &[u8], word: &[u8]) -> Class
     Class::Is(kind_of(word), token)
 }
 
-// Inner: the identifier at a cursor, for a run, which has checked its text and its book.
+// The identifier at a cursor, for a run, which has checked its text and its book.
 pub fn identify(book: &[u8], text: &[u8], start: Cursor) -> Identified
     requires { ⌜ good (now book) ≡ true ⌝ }
     ensures { λ r. ⌜ r ≡ identifyOf (now (text .entry)) (now (book .entry)) start ⌝ }
 {
     let place = start.place;
     let Taken::Char(_, first) = start.get_next(text) else {
-        return Identified::Refused(
-            Fault {
-                number: Fault::BAD_ARGUMENT,
-                place,
-                part: Part::NONE,
-            },
-            start,
-        );
+        return Identified::Refused(Fault::at(Fault::BAD_ARGUMENT, place), start);
     };
     let end = chars::stretch::end_of(Stretch::Word, text, first);
     let at = start.at;
     let to = end.at;
     let Class::Is(kind, token) = class_of(book, &text[at..to]) else {
-        return Identified::Refused(
-            Fault {
-                number: Fault::MALFORMED_IDENTIFIER,
-                place,
-                part: Part { at, len: to - at },
-            },
-            end,
-        );
+        let part = Part { at, len: to - at };
+        return Identified::Refused(Fault::about(Fault::MALFORMED_IDENTIFIER, place, part), end);
     };
     Identified::Found(Word {
         kind,

@@ -2,7 +2,7 @@
 ghost use mathlib.Core.Path.{_≡_};
 ghost use Prim.Native.Nat.{_≤_};
 ghost use lib.ListN.{length, drop};
-ghost use Rattle.identifier.specs.Valid.{afterUnderscores, goesOn, isValidIdentifier};
+ghost use Rattle.identifier.specs.Valid.{afterUnderscores, allContinue, isValidIdentifier};
 
 // How many underscores a text begins with.
 fn underscores(name: &[u8]) -> usize
@@ -10,7 +10,7 @@ fn underscores(name: &[u8]) -> usize
 {
     let mut i = 0;
     while i < name.len() {
-        if name[i] != 0x5F {
+        if name[i] != b'_' {
             return i;
         }
         i += 1;
@@ -21,7 +21,7 @@ fn underscores(name: &[u8]) -> usize
 // Whether every byte from an index on goes on an identifier.
 fn goes_on(name: &[u8], from: usize) -> bool
     requires { ⌜ from ≤ length (now name) ⌝ }
-    ensures { λ r. ⌜ r ≡ goesOn (drop from (now (name .entry))) ⌝ }
+    ensures { λ r. ⌜ r ≡ allContinue (drop from (now (name .entry))) ⌝ }
 {
     let mut i = from;
     while i < name.len() {

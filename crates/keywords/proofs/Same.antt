@@ -8,7 +8,8 @@ use lib.Dec.{eqb}
 use lib.ListN.{length}
 use borrow.Author.Tests.{eq-eqb, ne-eqb, eqb-true}
 use Rattle.basis.proofs.Cases.{both-left, both-right, not-both}
-use Rattle.keywords.specs.Lookup.{begins, same}
+use Rattle.keywords.specs.Lookup.{sameText}
+use Rattle.basis.specs.Words.{begins}
 
 -- a word that a text begins with is no longer than it
 pub begins-within : (w s : List ℕ) → begins w s ≡ true → length w ≤ length s
@@ -31,14 +32,14 @@ begins-whole (a ∷ w) (b ∷ s) l e =
     rw (eqb-true a b (both-left (eqb a b) (begins w s) e), begins-whole w s (omega arith) (both-right (eqb a b) (begins w s) e))
 
 module _ (w s : List ℕ) where
-  pub same-text : same w s ≡ true → w ≡ s
-  unfolding same
+  pub same-text : sameText w s ≡ true → w ≡ s
+  unfolding sameText
   same-text e = begins-whole w s (eqb-true (length w) (length s) (both-left (eqb (length w) (length s)) (begins w s) e)) (both-right (eqb (length w) (length s)) (begins w s) e)
 
-  pub other-length : (length w ≡ length s → ⊥) → false ≡ same w s
-  unfolding same
+  pub other-length : (length w ≡ length s → ⊥) → false ≡ sameText w s
+  unfolding sameText
   other-length n = rw (ne-eqb (length w) (length s) n)
 
-pub same-self : (w : List ℕ) → same w w ≡ true
-unfolding same
+pub same-self : (w : List ℕ) → sameText w w ≡ true
+unfolding sameText
 same-self w = rw (eq-eqb (length w) (length w) refl) (begins-self w)

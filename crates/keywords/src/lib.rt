@@ -2,7 +2,7 @@
 ghost use mathlib.Core.Path.{_≡_};
 ghost use Prim.Native.Nat.{_≤_};
 ghost use lib.ListN.{length};
-ghost use Rattle.token.specs.Spelt.{numberOf};
+ghost use Rattle.token.specs.Spelt.{wordNumber};
 ghost use Rattle.keywords.specs.Lookup.{lookupOf};
 use token::Lookup;
 use token::tokens::EOF;
@@ -13,7 +13,7 @@ const LONGEST: usize = 8;
 // A text as one number.
 fn number_of(text: &[u8]) -> u64
     requires { ⌜ length (now text) ≤ 8 ⌝ }
-    ensures { λ r. ⌜ r ≡ numberOf (now (text .entry)) ⌝ }
+    ensures { λ r. ⌜ r ≡ wordNumber (now (text .entry)) ⌝ }
 {
     let mut v: u64 = 0;
     let mut i = 0;

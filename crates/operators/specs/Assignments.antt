@@ -5,7 +5,7 @@ use mathlib.Core.List.{List, [], _∷_}
 use lib.Dec.{eqb}
 use Rattle.basis.specs.Pick.{pick}
 use Rattle.token.specs.Tokens as Token
-use Rattle.token.specs.Tokens.{among}
+use Rattle.token.specs.Tokens.{amongTokens}
 use Rattle.token.specs.declared.Lookup.{Lookup}
 use Rattle.token.specs.declared.Lookup.the-variants.{Some, None}
 
@@ -47,11 +47,11 @@ operators (p ∷ ps) = p .operator ∷ operators ps
 
 -- the token is an assignment with an operator
 unfoldable pub isOpAssignment : ℕ → Bool
-isOpAssignment t = among (assignments pairs) t
+isOpAssignment t = amongTokens (assignments pairs) t
 
 -- the token is an operator that has an assignment
 unfoldable pub hasOpAssignment : ℕ → Bool
-hasOpAssignment t = among (operators pairs) t
+hasOpAssignment t = amongTokens (operators pairs) t
 
 -- the operator of an assignment, by the first pair that has it
 unfoldable pub operatorIn : List Pair → ℕ → Lookup

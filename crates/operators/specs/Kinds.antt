@@ -5,7 +5,7 @@ use mathlib.Core.List.{List, [], _∷_}
 use lib.Dec.{ltb}
 use Rattle.basis.specs.Pick.{both, isnt}
 use Rattle.token.specs.Tokens as Token
-use Rattle.token.specs.Tokens.{among, tokenCount}
+use Rattle.token.specs.Tokens.{amongTokens, tokenCount}
 
 -- the tokens that are no literal symbol
 unfoldable pub notLiteral : List ℕ
@@ -16,7 +16,7 @@ notLiteral =
 
 -- every other token is one
 unfoldable pub isLiteral : ℕ → Bool
-isLiteral t = both (ltb t tokenCount) (isnt (among notLiteral t))
+isLiteral t = both (ltb t tokenCount) (isnt (amongTokens notLiteral t))
 
 -- the standard symbols
 unfoldable pub standardSymbols : List ℕ
@@ -33,7 +33,7 @@ standardSymbols =
 
 -- the token is a standard symbol
 unfoldable pub isStandardSymbol : ℕ → Bool
-isStandardSymbol t = among standardSymbols t
+isStandardSymbol t = amongTokens standardSymbols t
 
 -- the standard keywords
 unfoldable pub standardKeywords : List ℕ
@@ -45,4 +45,4 @@ standardKeywords =
 
 -- the token is a standard keyword
 unfoldable pub isStandardKeyword : ℕ → Bool
-isStandardKeyword t = among standardKeywords t
+isStandardKeyword t = amongTokens standardKeywords t

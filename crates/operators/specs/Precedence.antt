@@ -5,7 +5,7 @@ use mathlib.Core.List.{List, [], _∷_}
 use lib.Dec.{eqb}
 use Rattle.basis.specs.Pick.{pick}
 use Rattle.token.specs.Tokens as Token
-use Rattle.token.specs.Tokens.{among}
+use Rattle.token.specs.Tokens.{amongTokens}
 
 -- the tokens that have one precedence
 pub record Level : Type 0 where
@@ -13,30 +13,30 @@ pub record Level : Type 0 where
   pub number : ℕ
 
 -- some tokens, and the precedence of each
-infix 90 _⇒_
-abbrev pub _⇒_ : List ℕ → ℕ → Level
-ks ⇒ n = record { tokens = ks; number = n }
+infix 90 _binds_
+abbrev pub _binds_ : List ℕ → ℕ → Level
+ks binds n = record { tokens = ks; number = n }
 
 -- the levels, in the order of the source
 unfoldable pub levels : List Level
 levels =
-    (Token.Or ∷ Token.XOr ∷ Token.Pipe ∷ []) ⇒ 30
-    ∷ (Token.And ∷ Token.Ampersand ∷ []) ⇒ 60
-    ∷ (Token.EqualsTo ∷ Token.NotEqualsTo ∷ []) ⇒ 90
-    ∷ (Token.In ∷ Token.NotIn ∷ []) ⇒ 110
-    ∷ (Token.LessThan ∷ Token.LessThanEqualsTo ∷ Token.GreaterThan ∷ Token.GreaterThanEqualsTo ∷ []) ⇒ 130
-    ∷ (Token.DoubleQuestion ∷ []) ⇒ 135
-    ∷ (Token.ExclusiveRange ∷ Token.InclusiveRange ∷ []) ⇒ 140
-    ∷ (Token.Plus ∷ Token.Minus ∷ []) ⇒ 150
-    ∷ (Token.Divide ∷ Token.Multiply ∷ Token.Modulo ∷ []) ⇒ 180
-    ∷ (Token.PowerOf ∷ []) ⇒ 190
-    ∷ (Token.LeftShift ∷ Token.RightShift ∷ []) ⇒ 210
+    (Token.Or ∷ Token.XOr ∷ Token.Pipe ∷ []) binds 30
+    ∷ (Token.And ∷ Token.Ampersand ∷ []) binds 60
+    ∷ (Token.EqualsTo ∷ Token.NotEqualsTo ∷ []) binds 90
+    ∷ (Token.In ∷ Token.NotIn ∷ []) binds 110
+    ∷ (Token.LessThan ∷ Token.LessThanEqualsTo ∷ Token.GreaterThan ∷ Token.GreaterThanEqualsTo ∷ []) binds 130
+    ∷ (Token.DoubleQuestion ∷ []) binds 135
+    ∷ (Token.ExclusiveRange ∷ Token.InclusiveRange ∷ []) binds 140
+    ∷ (Token.Plus ∷ Token.Minus ∷ []) binds 150
+    ∷ (Token.Divide ∷ Token.Multiply ∷ Token.Modulo ∷ []) binds 180
+    ∷ (Token.PowerOf ∷ []) binds 190
+    ∷ (Token.LeftShift ∷ Token.RightShift ∷ []) binds 210
     ∷ []
 
 -- the number of the first level that has the token; 0 for none
 unfoldable pub precedenceIn : List Level → ℕ → ℕ
 precedenceIn [] t = 0
-precedenceIn (l ∷ ls) t = pick (among (l .tokens) t) (l .number) (precedenceIn ls t)
+precedenceIn (l ∷ ls) t = pick (amongTokens (l .tokens) t) (l .number) (precedenceIn ls t)
 
 -- a token's precedence
 unfoldable pub precedenceOf : ℕ → ℕ

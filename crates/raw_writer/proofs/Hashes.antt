@@ -10,7 +10,8 @@ use lib.ListN.{length, drop, getD}
 use borrow.Author.Tests.{eqb-true}
 use Rattle.basis.proofs.Bytes.{here, past}
 use Rattle.basis.proofs.Cases.{pick-cases}
-use Rattle.raw_writer.specs.Writer.{quote, hash, hashesAhead, mostAfterQuote, hashesFor}
+use Rattle.raw_writer.specs.Writer.{hashesAhead, mostAfterQuote, hashesFor}
+use Rattle.classes.specs.Marks.{quote, hash}
 use Rattle.raw_writer.specs.Step.{nextHeld}
 
 -- by cases on a byte: a quote, a hash, or neither

@@ -7,7 +7,8 @@ use lib.Dec.{eqb, leb}
 use lib.ListN.{drop, replicate}
 use borrow.Author.Tests.{leb-true, leb-false, eqb-true}
 use Rattle.basis.proofs.Cases.{pick-cases}
-use Rattle.raw_writer.specs.Writer.{quote, hash, hashesAhead, mostAfterQuote, hashesFor, Has, Leastness}
+use Rattle.raw_writer.specs.Writer.{hashesAhead, mostAfterQuote, hashesFor, Has, Leastness}
+use Rattle.classes.specs.Marks.{quote, hash}
 
 -- ---- what a body has is counted
 ahead-counts : (j : ℕ) (b : List ℕ) → j ≤ hashesAhead (replicate j hash ++ b)

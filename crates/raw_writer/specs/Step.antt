@@ -2,7 +2,7 @@
 use Prim.Native.Nat.{ℕ, _+_}
 use lib.Dec.{eqb}
 use Rattle.basis.specs.Pick.{pick}
-use Rattle.raw_writer.specs.Writer.{quote, hash}
+use Rattle.classes.specs.Marks.{quote, hash}
 
 -- a quote and the hashes directly after it, counted together, after one byte more; 0 where the bytes so far do not end so
 unfoldable pub nextHeld : ℕ → ℕ → ℕ

@@ -4,36 +4,19 @@ ghost use Prim.Native.Nat.{_≤_, max};
 ghost use lib.ListN.{length};
 ghost use Rattle.basis.specs.Store.{over};
 ghost use Rattle.raw_writer.specs.Step.{nextHeld};
-ghost use Rattle.raw_writer.specs.Writer.{hashesFor, literalOf, refusesOf, rawWriteOf, rawLeftOf};
+ghost use Rattle.raw_writer.specs.Writer.{hashesFor, rawLiteralOf, rawWriteOf, rawLeftOf};
 use fault::Fault;
 use lent::Written;
-
-const QUOTE: u8 = 0x22;
-
-const HASH: u8 = 0x23;
-
-// What a body refuses, by number; 0 for nothing.
-pub fn refuses(body: &[u8]) -> u8
-    ensures { λ r. ⌜ r ≡ refusesOf (now (body .entry)) ⌝ }
-{
-    if 16_777_216 < body.len() {
-        return Fault::TEXT_TOO_LONG;
-    }
-    if utf8::formed::check(body) {
-        return 0;
-    }
-    Fault::NOT_UTF8
-}
 
 // A quote begins a run, a hash goes on with one, and any other byte ends it. The run's length then.
 fn next_held(held: usize, c: u8) -> usize
     requires { ⌜ held ≤ 16777216 ⌝ }
     ensures { λ r. ⌜ r ≡ nextHeld held c ⌝ }
 {
-    if c == QUOTE {
+    if c == b'"' {
         return 1;
     }
-    if c == HASH {
+    if c == b'#' {
         if held == 0 {
             return 0;
         }
@@ -70,14 +53,14 @@ fn hashes_for(body: &[u8]) -> usize
 
 // Writes the literal to the front of what is lent.
 fn write(body: &[u8], hashes: usize, out: &mut [u8])
-    requires { ⌜ (hashes ≡ hashesFor (now body)) × (length (literalOf (now body)) ≤ length (now out)) ⌝ }
-    ensures { λ _. ⌜ now (out .exit) ≡ over (literalOf (now (body .entry))) (now (out .entry)) ⌝ }
+    requires { ⌜ (hashes ≡ hashesFor (now body)) × (length (rawLiteralOf (now body)) ≤ length (now out)) ⌝ }
+    ensures { λ _. ⌜ now (out .exit) ≡ over (rawLiteralOf (now (body .entry))) (now (out .entry)) ⌝ }
 {
-    let opened = lent::fill(HASH, hashes, &mut *out, 0);
-    let begun = lent::fill(QUOTE, 1, &mut *out, opened);
+    let opened = lent::fill(b'#', hashes, &mut *out, 0);
+    let begun = lent::fill(b'"', 1, &mut *out, opened);
     let ended = lent::copy(body, &mut *out, begun);
-    let closed = lent::fill(QUOTE, 1, &mut *out, ended);
-    lent::fill(HASH, hashes, &mut *out, closed);
+    let closed = lent::fill(b'"', 1, &mut *out, ended);
+    lent::fill(b'#', hashes, &mut *out, closed);
 }
 
 // The raw literal of a body, at the front of what is lent. A literal that is longer than a script may
@@ -86,7 +69,7 @@ pub fn raw_write(body: &[u8], out: &mut [u8]) -> Written
     ensures { λ r. ⌜ r ≡ rawWriteOf (now (body .entry)) (now (out .entry)) ⌝ }
     ensures { λ r. ⌜ now (out .exit) ≡ rawLeftOf (now (body .entry)) (now (out .entry)) ⌝ }
 {
-    let number = refuses(body);
+    let number = door::text(body);
     if number != 0 {
         return Written::Refused(number);
     }

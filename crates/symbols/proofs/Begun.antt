@@ -10,12 +10,12 @@ use Rattle.basis.specs.Pick.{pick, both, isnt}
 use Rattle.basis.specs.Words.{word}
 use Rattle.basis.proofs.Cases.{not-both}
 use Rattle.classes.specs.Class.{isIdFirstAlphabetic, isIdContinue}
-use Rattle.token.specs.Tokens.{among}
+use Rattle.token.specs.Tokens.{amongTokens}
 use Rattle.token.specs.Tokens as Token
 use Rattle.token.specs.Keywords.{keywords}
 use Rattle.token.proofs.Arms.{Arm, arm, run, OnRun, run-is, Answers, Past}
 use Rattle.symbols.specs.Symbols.{isSymbol, longer, longestOf}
-use Rattle.symbols.specs.Begun.{followedOf, assignedOf, doubledOf, dotsOf, bangOf, questionOf, hashOf}
+use Rattle.symbols.specs.Begun.{followedOf, assignedOf, doubledOf, dotsOf, bangOf, questionOf, mapStartOf}
 use Rattle.symbols.specs.declared.Longest.{Longest}
 use Rattle.symbols.specs.declared.Longest.the-variants.{Symbol, Nothing}
 use Rattle.symbols.proofs.Fronts.{longestBy, by-bytes}
@@ -118,8 +118,8 @@ question-is b = rw (turned b 0x2E, turned b 0x5B, turned b 0x3F) (by (eqb 0x2E b
     by false false true = refl
     by false false false = refl
 
-pub hash-is : (b : ℕ) → hashOf b ≡ best (if′ (eqb 0x7B b) Token.MapStart 2 ∷ [])
-unfolding hashOf longer
+pub hash-is : (b : ℕ) → mapStartOf b ≡ best (if′ (eqb 0x7B b) Token.MapStart 2 ∷ [])
+unfolding mapStartOf longer
 hash-is b = rw (turned b 0x7B) (by (eqb 0x7B b))
   where
     by : (t : Bool) → if′ t Token.MapStart 2 ≡ best (if′ t Token.MapStart 2 ∷ [])
@@ -157,7 +157,7 @@ nothings = record { of = Longest; none = Nothing; same = neither; sound = neithe
 
 -- no other byte begins a symbol: one computed test over them
 none-first : (b c : ℕ) (on : Bool) → OnRun nothings (λ x. longestBy keywords x b c on) (arms-of firsts) (run 0 256 Nothing ∷ [])
-unfolding keywords word isSymbol isIdFirstAlphabetic longer among
+unfolding keywords word isSymbol isIdFirstAlphabetic longer amongTokens
 none-first b c on = run-is nothings (λ x. longestBy keywords x b c on) (arms-of firsts) (run 0 256 Nothing ∷ []) tt
 
 pub on-other : (s : List ℕ) (x : ℕ) → x ≡ getD s 0 0 → x < 256 → Past (Prim.Unit {0}) (arms-of firsts) x → Nothing ≡ longestOf s

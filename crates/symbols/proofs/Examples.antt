@@ -1,10 +1,9 @@
 -- Worked examples of the definitions, under one theorem. Assumes nothing.
 use mathlib.Core.Path.{_≡_, refl}
-use Rattle.basis.specs.Words.{word}
+use Rattle.basis.specs.Words.{word, begins}
 use Rattle.classes.specs.Class.{isNumericDigit, isIdFirstAlphabetic, isIdContinue}
 use Rattle.token.specs.Tokens as Token
 use Rattle.token.specs.Keywords.{keywords}
-use Rattle.keywords.specs.Lookup.{begins}
 use Rattle.symbols.specs.Symbols.{isSymbol, stands, standing, longer, longestIn, longestOf, longestSymbolOf}
 use Rattle.symbols.specs.declared.Longest.the-variants.{Symbol, Nothing}
 

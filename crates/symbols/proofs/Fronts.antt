@@ -6,12 +6,11 @@ use mathlib.Core.List.{List, [], _∷_}
 use lib.Dec.{T, eqb, eqb→eq}
 use lib.ListN.{length, getD}
 use Rattle.basis.specs.Pick.{pick, both, either, isnt}
-use Rattle.basis.specs.Words.{word}
+use Rattle.basis.specs.Words.{word, begins}
 use Rattle.basis.proofs.Cases.{true-left, true-right}
 use Rattle.classes.specs.Class.{isIdFirstAlphabetic, isIdContinue}
 use Rattle.token.specs.Tokens as Token
-use Rattle.token.specs.Keywords.{Entry, keywords}
-use Rattle.keywords.specs.Lookup.{begins}
+use Rattle.token.specs.Keywords.{KeywordEntry, keywords}
 use Rattle.symbols.specs.Symbols.{isSymbol, stands, standing, longer, longestIn, longestOf}
 use Rattle.symbols.specs.declared.Longest.{Longest}
 use Rattle.symbols.specs.declared.Longest.the-variants.{Symbol, Nothing}
@@ -32,10 +31,10 @@ beginsAnd t (x ∷ (y ∷ [])) a b c = both (eqb x a) (both t (eqb y b))
 beginsAnd t (x ∷ (y ∷ (z ∷ w))) a b c = both (eqb x a) (both t (both (eqb y b) (eqb z c)))
 
 -- a place's symbol stands there, where `on` says that an identifier goes on behind three bytes
-abbrev standsBy : Entry → ℕ → ℕ → ℕ → Bool → Bool
+abbrev standsBy : KeywordEntry → ℕ → ℕ → ℕ → Bool → Bool
 standsBy e a b c on = both (isSymbol (e .text)) (beginsAnd (isnt (both (eqb (e .token) Token.NotIn) on)) (e .text) a b c)
 
-abbrev pub longestBy : List Entry → ℕ → ℕ → ℕ → Bool → Longest
+abbrev pub longestBy : List KeywordEntry → ℕ → ℕ → ℕ → Bool → Longest
 longestBy [] a b c on = Nothing
 longestBy (e ∷ es) a b c on = longer (pick (standsBy e a b c on) (Symbol (e .token) (length (e .text))) Nothing) (longestBy es a b c on)
 
@@ -47,10 +46,10 @@ short (x ∷ (y ∷ [])) = both (isnt (eqb x 0)) (isnt (eqb y 0))
 short (x ∷ (y ∷ (z ∷ []))) = both (isnt (eqb x 0)) (both (isnt (eqb y 0)) (isnt (eqb z 0)))
 short (x ∷ (y ∷ (z ∷ (v ∷ w)))) = false
 
-abbrev fits : Entry → Bool
+abbrev fits : KeywordEntry → Bool
 fits e = either (isnt (isSymbol (e .text))) (both (short (e .text)) (either (isnt (eqb (e .token) Token.NotIn)) (eqb (length (e .text)) 3)))
 
-abbrev every : List Entry → Bool
+abbrev every : List KeywordEntry → Bool
 every [] = true
 every (e ∷ es) = both (fits e) (every es)
 
@@ -99,7 +98,7 @@ begins-and t (x ∷ (y ∷ [])) a b c = turn (eqb x a) (eqb y b) t
 begins-and t (x ∷ (y ∷ (z ∷ w))) a b c = turn (eqb x a) (both (eqb y b) (eqb z c)) t
 
 module _ (s : List ℕ) where
-  stands-by : (e : Entry) → T (fits e) → stands s e ≡ standsBy e (getD s 0 0) (getD s 1 0) (getD s 2 0) (isIdContinue (getD s 3 0))
+  stands-by : (e : KeywordEntry) → T (fits e) → stands s e ≡ standsBy e (getD s 0 0) (getD s 1 0) (getD s 2 0) (isIdContinue (getD s 3 0))
   unfolding stands
   stands-by e h = by (isSymbol (e .text)) (eqb (e .token) Token.NotIn) h
     where
@@ -112,7 +111,7 @@ module _ (s : List ℕ) where
           let l : length (e .text) ≡ 3 = eqb→eq (length (e .text)) 3 (true-right (short (e .text)) _ g) in
           rw (l, begins-by (e .text) s (true-left (short (e .text)) _ g)) (begins-and _ (e .text) _ _ _)
 
-  longest-by : (es : List Entry) → T (every es) → longestIn es s ≡ longestBy es (getD s 0 0) (getD s 1 0) (getD s 2 0) (isIdContinue (getD s 3 0))
+  longest-by : (es : List KeywordEntry) → T (every es) → longestIn es s ≡ longestBy es (getD s 0 0) (getD s 1 0) (getD s 2 0) (isIdContinue (getD s 3 0))
   unfolding longestIn standing
   longest-by [] h = refl
   longest-by (e ∷ es) h = rw (stands-by e (true-left (fits e) (every es) h), longest-by es (true-right (fits e) (every es) h))

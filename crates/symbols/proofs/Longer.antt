@@ -10,8 +10,8 @@ use lib.Dec.{ltb}
 use lib.ListN.{length, getD, drop, length-drop}
 use borrow.Author.Tests.{ltb-true, ltb-false}
 use Rattle.basis.proofs.Cases.{pick-cases, not-both, both-left, both-right}
-use Rattle.token.specs.Keywords.{Entry, keywords, blank, entryAt}
-use Rattle.keywords.specs.Lookup.{begins}
+use Rattle.token.specs.Keywords.{KeywordEntry, keywords, blank, entryAt}
+use Rattle.basis.specs.Words.{begins}
 use Rattle.symbols.specs.Symbols.{isSymbol, stands, standing, longer, longestIn, longestOf, longestSymbolOf}
 use Rattle.symbols.specs.declared.Longest.{Longest}
 use Rattle.symbols.specs.declared.Longest.the-variants.{Symbol, Nothing}
@@ -50,25 +50,25 @@ no-shorter (Symbol t n) (Symbol u m) =
 
 -- ---- of any places
 module _ (s : List ℕ) where
-  standing-size : (e : Entry) → stands s e ≡ true → sizeOf (standing s e) ≡ length (e .text)
+  standing-size : (e : KeywordEntry) → stands s e ≡ true → sizeOf (standing s e) ≡ length (e .text)
   unfolding standing sizeOf
   standing-size e z = rw z
 
-  record Has (es : List Entry) (t n : ℕ) : Type 0 where
+  record Has (es : List KeywordEntry) (t n : ℕ) : Type 0 where
     place : ℕ
     within : place < length es
     token : getD es place blank .token ≡ t
     size : length (getD es place blank .text) ≡ n
     there : stands s (getD es place blank) ≡ true
 
-  standing-has : (e : Entry) (es : List Entry) (t n : ℕ) → standing s e ≡ Symbol t n → Has (e ∷ es) t n
+  standing-has : (e : KeywordEntry) (es : List KeywordEntry) (t n : ℕ) → standing s e ≡ Symbol t n → Has (e ∷ es) t n
   unfolding standing
   standing-has e es t n =
       pick-cases (λ (l : Longest). l ≡ Symbol t n → Has (e ∷ es) t n) (stands s e) (Symbol (e .token) (length (e .text))) Nothing
       (λ z g. record { place = 0; within = omega arith; token = cc; size = cc; there = z })
       (λ z g. let y : _≡_ {A = ℕ} 0 1 = cc in absurd (omega arith))
 
-  longest-has : (es : List Entry) (t n : ℕ) → longestIn es s ≡ Symbol t n → Has es t n
+  longest-has : (es : List KeywordEntry) (t n : ℕ) → longestIn es s ≡ Symbol t n → Has es t n
   unfolding longestIn
   longest-has [] t n e = let y : _≡_ {A = ℕ} 0 1 = cc in absurd (omega arith)
   longest-has (d ∷ es) t n e =
@@ -76,7 +76,7 @@ module _ (s : List ℕ) where
       (λ g. let h = longest-has es t n g in record { place = suc (h .place); within = omega (arith, h .within); token = h .token; size = h .size; there = h .there })
       (one-of (standing s d) (longestIn es s) (Symbol t n) e)
 
-  longest-most : (es : List Entry) (k : ℕ) → k < length es → stands s (getD es k blank) ≡ true → length (getD es k blank .text) ≤ sizeOf (longestIn es s)
+  longest-most : (es : List KeywordEntry) (k : ℕ) → k < length es → stands s (getD es k blank) ≡ true → length (getD es k blank .text) ≤ sizeOf (longestIn es s)
   unfolding longestIn
   longest-most [] k h z = absurd (omega arith)
   longest-most (d ∷ es) zero h z = rw (standing-size d z) at (no-shorter (standing s d) (longestIn es s) .0)
@@ -88,11 +88,11 @@ module _ (s : List ℕ) where
   symbol-some [] z = not-both z refl
   symbol-some (b ∷ w) z = omega arith
 
-  stands-some : (e : Entry) → stands s e ≡ true → 0 < length (e .text)
+  stands-some : (e : KeywordEntry) → stands s e ≡ true → 0 < length (e .text)
   unfolding stands
   stands-some e z = symbol-some (e .text) (both-left (isSymbol (e .text)) _ z)
 
-  stands-within : (e : Entry) → stands s e ≡ true → length (e .text) ≤ length s
+  stands-within : (e : KeywordEntry) → stands s e ≡ true → length (e .text) ≤ length s
   unfolding stands
   stands-within e z = begins-within (e .text) s (both-left (begins (e .text) s) _ (both-right (isSymbol (e .text)) _ z))
 

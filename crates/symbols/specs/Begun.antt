@@ -1,4 +1,4 @@
--- What a byte begins, by the bytes behind it, in the shape of the code. Inner: the crate's answers are those of `specs/Symbols.antt`.
+-- What a byte begins, by the bytes behind it, in the shape of the code. The crate's answers are those of `specs/Symbols.antt`.
 use Prim.Native.Nat.{ℕ}
 use mathlib.Core.Bool.{Bool}
 use lib.Dec.{eqb}
@@ -49,5 +49,5 @@ questionOf b =
     (pick (eqb b 0x5B) (Symbol Token.QuestionBracket 2) (pick (eqb b 0x3F) (Symbol Token.DoubleQuestion 2) Nothing))
 
 -- `#{`
-unfoldable pub hashOf : ℕ → Longest
-hashOf b = pick (eqb b 0x7B) (Symbol Token.MapStart 2) Nothing
+unfoldable pub mapStartOf : ℕ → Longest
+mapStartOf b = pick (eqb b 0x7B) (Symbol Token.MapStart 2) Nothing

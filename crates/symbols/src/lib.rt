@@ -13,7 +13,7 @@ ghost use Rattle.symbols.specs.Begun.{
   dotsOf,
   bangOf,
   questionOf,
-  hashOf,
+  mapStartOf,
 };
 use token::tokens::*;
 
@@ -166,7 +166,7 @@ fn question(text: &[u8]) -> Longest
 
 // What `#` begins, which is no symbol by itself.
 fn hash(text: &[u8]) -> Longest
-    ensures { λ r. ⌜ r ≡ hashOf (getD (now (text .entry)) 1 0) ⌝ }
+    ensures { λ r. ⌜ r ≡ mapStartOf (getD (now (text .entry)) 1 0) ⌝ }
 {
     if byte_at(text, 1) == b'{' {
         return Longest::Symbol(MAP_START, 2);
@@ -174,7 +174,7 @@ fn hash(text: &[u8]) -> Longest
     Longest::Nothing
 }
 
-// Inner: the longest symbol at the front of a text, by its first byte.
+// The longest symbol at the front of a text, by its first byte.
 pub fn longest_of(text: &[u8]) -> Longest
     ensures { λ r. ⌜ r ≡ longestOf (now (text .entry)) ⌝ }
 {

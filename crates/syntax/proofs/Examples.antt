@@ -1,11 +1,11 @@
 -- Worked examples of the definitions, under one theorem. Assumes nothing.
 use mathlib.Core.Path.{_≡_, refl}
 use mathlib.Core.List.{[]}
-use Rattle.basis.specs.Words.{word}
+use Rattle.basis.specs.Words.{word, begins}
 use Rattle.token.specs.Tokens as Token
 use Rattle.token.specs.Keywords.{keywords, textIn}
 use Rattle.token.specs.declared.Lookup.the-variants.{Some}
-use Rattle.keywords.specs.Lookup.{begins, same, lookupIn, lookupOf}
+use Rattle.keywords.specs.Lookup.{sameText, lookupIn, lookupOf}
 use Rattle.syntax.specs.Syntax.{writtenAs, literalSyntaxOf}
 
 pub record Worked : Type 0 where
@@ -15,7 +15,7 @@ pub record Worked : Type 0 where
   pub no-token : literalSyntaxOf 91 ≡ []
 
 pub worked : Worked
-unfolding word keywords begins same lookupIn lookupOf textIn writtenAs literalSyntaxOf
+unfolding word keywords begins sameText lookupIn lookupOf textIn writtenAs literalSyntaxOf
 worked = record {
   unary-plus = refl;
   unary-minus = refl;

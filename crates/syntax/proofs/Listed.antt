@@ -8,10 +8,10 @@ use lib.Dec.{T, eqb}
 use lib.ListN.{length, getD}
 use borrow.Author.Tests.{eqb-true, eqb-false, ne-eqb}
 use Rattle.basis.specs.Pick.{both, either}
-use Rattle.basis.specs.Words.{word}
+use Rattle.basis.specs.Words.{word, begins}
 use Rattle.basis.proofs.Cases.{true-left, true-right, pick-cases}
-use Rattle.token.specs.Keywords.{Entry, keywords, blank, entryAt, textIn}
-use Rattle.keywords.specs.Lookup.{begins, same, lookupIn, lookupOf}
+use Rattle.token.specs.Keywords.{KeywordEntry, keywords, blank, entryAt, textIn}
+use Rattle.keywords.specs.Lookup.{sameText, lookupIn, lookupOf}
 use Rattle.syntax.specs.Syntax.{writtenAs, literalSyntaxOf}
 use Rattle.token.specs.declared.Lookup.{Lookup}
 use Rattle.token.specs.declared.Lookup.the-variants.{Some, None}
@@ -39,24 +39,24 @@ holds : (b : Bool) → T b → b ≡ true
 holds true h = refl
 holds false h = absurd h
 
-own : Entry → Bool
-own e = either (eqb (length (e .text)) 0) (both (isSome (e .token) (lookupOf (e .text))) (same (literalSyntaxOf (e .token)) (e .text)))
+own : KeywordEntry → Bool
+own e = either (eqb (length (e .text)) 0) (both (isSome (e .token) (lookupOf (e .text))) (sameText (literalSyntaxOf (e .token)) (e .text)))
 
-abbrev every : (Entry → Bool) → List Entry → Bool
+abbrev every : (KeywordEntry → Bool) → List KeywordEntry → Bool
 every f [] = true
 every f (e ∷ es) = both (f e) (every f es)
 
-every-at : (f : Entry → Bool) (es : List Entry) (k : ℕ) → k < length es → T (every f es) → T (f (getD es k blank))
+every-at : (f : KeywordEntry → Bool) (es : List KeywordEntry) (k : ℕ) → k < length es → T (every f es) → T (f (getD es k blank))
 every-at f [] k h t = absurd (omega arith)
 every-at f (e ∷ es) zero h t = true-left (f e) (every f es) t
 every-at f (e ∷ es) (suc k) h t = every-at f es k (omega arith) (true-right (f e) (every f es) t)
 
 checked : T (every own keywords)
-unfolding own keywords word begins same lookupIn lookupOf textIn writtenAs literalSyntaxOf
+unfolding own keywords word begins sameText lookupIn lookupOf textIn writtenAs literalSyntaxOf
 checked = tt
 
 module _ (k : ℕ) (h : k < 153) (some : length (entryAt k .text) ≡ 0 → ⊥) where
-  owned : T (both (isSome (entryAt k .token) (lookupOf (entryAt k .text))) (same (literalSyntaxOf (entryAt k .token)) (entryAt k .text)))
+  owned : T (both (isSome (entryAt k .token) (lookupOf (entryAt k .text))) (sameText (literalSyntaxOf (entryAt k .token)) (entryAt k .text)))
   unfolding own entryAt
   owned =
       let t : T (own (entryAt k)) = every-at own keywords k (rw many h) checked in
@@ -69,31 +69,31 @@ module _ (k : ℕ) (h : k < 153) (some : length (entryAt k .text) ≡ 0 → ⊥)
   place-text = same-text _ _ (holds _ (true-right (isSome (entryAt k .token) (lookupOf (entryAt k .text))) _ owned))
 
 -- ---- what is found stands somewhere
-record Has (es : List Entry) (s : List ℕ) (t : ℕ) : Type 0 where
+record Has (es : List KeywordEntry) (s : List ℕ) (t : ℕ) : Type 0 where
   place : ℕ
   within : place < length es
   text : getD es place blank .text ≡ s
   token : getD es place blank .token ≡ t
 
-has-here : (e : Entry) (es : List Entry) → Has (e ∷ es) (e .text) (e .token)
+has-here : (e : KeywordEntry) (es : List KeywordEntry) → Has (e ∷ es) (e .text) (e .token)
 has-here e es = record { place = 0; within = omega arith; text = refl; token = refl }
 
-has-later : (e : Entry) (es : List Entry) (s : List ℕ) (t : ℕ) → Has es s t → Has (e ∷ es) s t
+has-later : (e : KeywordEntry) (es : List KeywordEntry) (s : List ℕ) (t : ℕ) → Has es s t → Has (e ∷ es) s t
 has-later e es s t h = record { place = suc (h .place); within = omega arith; text = h .text; token = h .token }
 
 never : (t : ℕ) → None ≡ Some t → ⊥
 never t e = let z : _≡_ {A = ℕ} 0 1 = cc in omega arith
 
-lookup-has : (es : List Entry) (s : List ℕ) (t : ℕ) → lookupIn es s ≡ Some t → Has es s t
+lookup-has : (es : List KeywordEntry) (s : List ℕ) (t : ℕ) → lookupIn es s ≡ Some t → Has es s t
 unfolding lookupIn
 lookup-has [] s t h = absurd (never t h)
 lookup-has (e ∷ es) s t h =
-    pick-cases (λ (l : Lookup). l ≡ Some t → Has (e ∷ es) s t) (same (e .text) s) (Some (e .token)) (lookupIn es s)
+    pick-cases (λ (l : Lookup). l ≡ Some t → Has (e ∷ es) s t) (sameText (e .text) s) (Some (e .token)) (lookupIn es s)
     (λ z g. let u : e .token ≡ t = cc in rw (← same-text (e .text) s z, ← u) (has-here e es))
     (λ z g. has-later e es s t (lookup-has es s t g))
     h
 
-text-has : (es : List Entry) (t : ℕ) → (length (textIn es t) ≡ 0 → ⊥) → Has es (textIn es t) t
+text-has : (es : List KeywordEntry) (t : ℕ) → (length (textIn es t) ≡ 0 → ⊥) → Has es (textIn es t) t
 unfolding textIn
 text-has [] t n = absurd (n refl)
 text-has (e ∷ es) t n =

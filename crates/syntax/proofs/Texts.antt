@@ -16,7 +16,7 @@ use Rattle.basis.proofs.Bounds.{split}
 use Rattle.basis.proofs.Bytes.{past}
 use Rattle.basis.proofs.Cases.{true-left, true-right}
 use Rattle.token.specs.Keywords.{keywords, textIn}
-use Rattle.token.specs.Spelt.{numberFrom, numberOf, speltOf}
+use Rattle.token.specs.Spelt.{numberFrom, wordNumber, speltOf}
 use Rattle.token.proofs.word_table.Numbers.{Bytes, bytes, bytes-are, number-same, bound, bound-down, bound-some, positive}
 use Rattle.syntax.specs.Syntax.{writtenAs, literalSyntaxOf}
 
@@ -59,16 +59,16 @@ set-front b i x h =
     let l : i < length (set b i x) = rw length-set h in
     rw (drop-cons (set b i x) i 0 l, getD-set-same b i x 0 h, drop-set-lt (suc i) b i x (omega arith))
 
-whole-number : (s : List ℕ) (v : ℕ) → v ≡ 0 → numberOf s ≡ numberFrom v s
-unfolding numberOf
+whole-number : (s : List ℕ) (v : ℕ) → v ≡ 0 → wordNumber s ≡ numberFrom v s
+unfolding wordNumber
 whole-number s v e = rw e
 
 empty : (s : List ℕ) → length s ≡ 0 → s ≡ []
 empty [] h = refl
 empty (b ∷ s) h = absurd (omega arith)
 
-none : numberOf [] ≡ 0
-unfolding numberOf numberFrom
+none : wordNumber [] ≡ 0
+unfolding wordNumber numberFrom
 none = refl
 
 module _ (n : ℕ) where
@@ -118,7 +118,7 @@ pub spelling-all : (t : ℕ) → t < 256 → (b : List ℕ) (at v : ℕ) → Spe
 unfolding speltOf
 spelling-all t h b at v r z =
     let e : v ≡ 0 = omega arith in
-    let n : numberOf (drop at b) ≡ numberOf (textIn keywords t) = whole-number (drop at b) v e ∙ r .is in
+    let n : wordNumber (drop at b) ≡ wordNumber (textIn keywords t) = whole-number (drop at b) v e ∙ r .is in
     ⊎-elim
     (λ a.
     let o : drop at b ≡ [] = past b at (omega (arith, r .room)) in

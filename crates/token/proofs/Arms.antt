@@ -12,7 +12,7 @@ use types.Run.{OneOf}
 use Rattle.basis.specs.Pick.{both, either, isnt}
 use Rattle.basis.proofs.Bounds.{split}
 use Rattle.basis.proofs.Cases.{true-left, true-right, not-both}
-use Rattle.token.specs.Tokens.{among}
+use Rattle.token.specs.Tokens.{amongTokens}
 use Rattle.token.specs.declared.Lookup.{Lookup}
 use Rattle.token.specs.declared.Lookup.the-variants.{Some, None}
 
@@ -77,8 +77,8 @@ abbrev pub lookups : Answers
 lookups = record { of = Lookup; none = None; same = sameLookup; sound = same-lookup }
 
 -- ---- a number among the keys
-among-one : (ks : List ℕ) (t : ℕ) → among ks t ≡ true → OneOf ks t
-unfolding among
+among-one : (ks : List ℕ) (t : ℕ) → amongTokens ks t ≡ true → OneOf ks t
+unfolding amongTokens
 among-one [] t e = not-both e refl
 among-one (k ∷ []) t e = go (eqb t k) refl e
   where
@@ -87,7 +87,7 @@ among-one (k ∷ []) t e = go (eqb t k) refl e
     go false p z = not-both z refl
 among-one (k ∷ (j ∷ ks)) t e = go (eqb t k) refl e (among-one (j ∷ ks) t)
   where
-    go : (x : Bool) → eqb t k ≡ x → either x (among (j ∷ ks) t) ≡ true → (among (j ∷ ks) t ≡ true → OneOf (j ∷ ks) t) → (t ≡ k) ⊎ OneOf (j ∷ ks) t
+    go : (x : Bool) → eqb t k ≡ x → either x (amongTokens (j ∷ ks) t) ≡ true → (amongTokens (j ∷ ks) t ≡ true → OneOf (j ∷ ks) t) → (t ≡ k) ⊎ OneOf (j ∷ ks) t
     go true p z h = inl (eqb-true t k p)
     go false p z h = inr (h z)
 
@@ -103,7 +103,7 @@ module _ (K : Answers) (g : ℕ → K .of) where
 
   abbrev pub keyed : List (Arm (K .of)) → ℕ → Bool
   keyed [] t = false
-  keyed (a ∷ as′) t = either (among (a .keys) t) (keyed as′ t)
+  keyed (a ∷ as′) t = either (amongTokens (a .keys) t) (keyed as′ t)
 
   abbrev pub at-run : List (Arm (K .of)) → ℕ → ℕ → K .of → Bool
   at-run as′ l zero a = true
@@ -133,9 +133,9 @@ module _ (K : Answers) (g : ℕ → K .of) where
   past-keys [] t n = (n, refl)
   past-keys {N} (a ∷ as′) t p =
       let r = past-keys {N = N × (OneOf (a .keys) t → ⊥)} as′ t p in
-      (r .0 .0, go (among (a .keys) t) refl (r .0 .1) (r .1))
+      (r .0 .0, go (amongTokens (a .keys) t) refl (r .0 .1) (r .1))
     where
-      go : (x : Bool) → among (a .keys) t ≡ x → (OneOf (a .keys) t → ⊥) → keyed as′ t ≡ false → either x (keyed as′ t) ≡ false
+      go : (x : Bool) → amongTokens (a .keys) t ≡ x → (OneOf (a .keys) t → ⊥) → keyed as′ t ≡ false → either x (keyed as′ t) ≡ false
       go true e n k = absurd (n (among-one (a .keys) t e))
       go false e n k = k
 

@@ -283,6 +283,6 @@ abbrev pub tokenCount : ℕ
 tokenCount = 91
 
 -- the token is one of these
-unfoldable pub among : List ℕ → ℕ → Bool
-among [] t = false
-among (k ∷ ks) t = either (eqb t k) (among ks t)
+unfoldable pub amongTokens : List ℕ → ℕ → Bool
+amongTokens [] t = false
+amongTokens (k ∷ ks) t = either (eqb t k) (amongTokens ks t)

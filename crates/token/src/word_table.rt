@@ -2,12 +2,12 @@
 // number, so a caller reads an entry and rebuilds nothing. A word is found by walking the tokens
 // whose texts begin with its first byte, where one of them is as long as it is.
 ghost use mathlib.Core.Path.{_≡_};
-ghost use Rattle.token.specs.Spelt.{speltOf, firstOf, lengthsOf, nextOf};
+ghost use Rattle.token.specs.Spelt.{speltOf, firstToken, lengthsOf, nextToken};
 use crate::tokens::*;
 
-// Inner: the first token, in the order of the list, whose text begins with a byte; EOF for none.
+// The first token, in the order of the list, whose text begins with a byte; EOF for none.
 pub fn first_of(b: u8) -> u8
-    ensures { λ r. ⌜ r ≡ firstOf b ⌝ }
+    ensures { λ r. ⌜ r ≡ firstToken b ⌝ }
 {
     match b {
         b'!' => BANG,
@@ -53,7 +53,7 @@ pub fn first_of(b: u8) -> u8
     }
 }
 
-// Inner: how long the texts are that begin with a byte: bit n, the rightmost being bit 0, is set if
+// How long the texts are that begin with a byte: bit n, the rightmost being bit 0, is set if
 // one has n bytes.
 pub fn lengths_of(b: u8) -> u32
     ensures { λ r. ⌜ r ≡ lengthsOf b ⌝ }
@@ -102,9 +102,9 @@ pub fn lengths_of(b: u8) -> u32
     }
 }
 
-// Inner: the next token whose text begins with the byte that a token's own begins with; EOF for none.
+// The next token whose text begins with the byte that a token's own begins with; EOF for none.
 pub fn next_of(token: u8) -> u8
-    ensures { λ r. ⌜ r ≡ nextOf token ⌝ }
+    ensures { λ r. ⌜ r ≡ nextToken token ⌝ }
 {
     match token {
         LEFT_PAREN => UNIT,
@@ -149,7 +149,7 @@ pub fn next_of(token: u8) -> u8
     }
 }
 
-// Inner: a token's text as one number, a byte for two hex digits; 0 for a token without one.
+// A token's text as one number, a byte for two hex digits; 0 for a token without one.
 pub fn spelt(token: u8) -> u64
     ensures { λ r. ⌜ r ≡ speltOf token ⌝ }
 {

@@ -5,7 +5,7 @@ use mathlib.Core.List.{List}
 use mathlib.Core.Path.{_≡_}
 use lib.ListN.{length}
 use borrow.Author.Needs.{needs}
-use Rattle.book.specs.Contents.{count, bodies, enough}
+use Rattle.book.specs.Contents.{wordCount, bodies, enough}
 use Rattle.book.proofs.contents.Parts.{is-short, is-count, is-enough, has-rows}
 use Rattle.book.proofs.Checks.{not-enough, too-many, not-running, not-all-fit, not-rising, all-right}
 use Rattle.book.proofs.check.Statement.{statement}
@@ -13,13 +13,16 @@ use Rattle.book.proofs.check.Tie as tie
 
 -- where the count is known
 module _ (k : tie.After-known-told) where
+  abbrev begin : tie.Start
+  begin = k .before .before .before .before .before
+
   abbrev book : List ℕ
-  book = k .before .before .before .before .before .args .book .now
+  book = begin .args .book .now
 
   abbrev n : ℕ
   n = k .before .n .given .0 .0
 
-  counted : n ≡ count book
+  counted : n ≡ wordCount book
   counted = is-count book _ (k .before .before .before .count .ensures) n (k .before .n .given .1)
 
   full : enough book ≡ true

@@ -10,7 +10,7 @@ use lib.Seq.{take-all, take-nil}
 use borrow.Author.Tests.{le-leb, lt-leb, leb-true}
 use Rattle.basis.specs.Pick.{pick}
 use Rattle.basis.proofs.Bytes.{past}
-use Rattle.book.specs.Contents.{u16At, count, bodies, startAt, sizeAt, wordAt, enough, rowsOf, rowOf}
+use Rattle.book.specs.Contents.{u16At, wordCount, bodies, startAt, sizeAt, wordAt, enough, rowsOf, rowOf}
 use Rattle.book.specs.declared.contents.Row.{Row}
 use Rattle.book.specs.declared.contents.Rows.{Rows}
 use Rattle.book.specs.declared.contents.Rows.the-variants.{Counted, Short}
@@ -23,20 +23,20 @@ module _ (book : List ℕ) where
 
   module _ (n : ℕ) (e : n ≡ u16At book 0) where
     pub too-short : length book < 2 + 4 * n → Short ≡ rowsOf book
-    unfolding rowsOf enough count
+    unfolding rowsOf enough wordCount
     too-short h = let g : length book < 2 + 4 * u16At book 0 = omega arith in rw (lt-leb _ _ g)
 
     pub has-count : 2 + 4 * n ≤ length book → Counted n ≡ rowsOf book
-    unfolding rowsOf enough count
+    unfolding rowsOf enough wordCount
     has-count h = let g : 2 + 4 * u16At book 0 ≤ length book = omega arith in rw (le-leb _ _ g, e)
 
 -- what the count that was read says
 module _ (book : List ℕ) (r : Rows) (e : r ≡ rowsOf book) where
-  go : (t : Bool) → enough book ≡ t → r ≡ pick t (Counted (count book)) Short → (n : ℕ) → r ≡ Counted n → (n ≡ count book) × (enough book ≡ true)
+  go : (t : Bool) → enough book ≡ t → r ≡ pick t (Counted (wordCount book)) Short → (n : ℕ) → r ≡ Counted n → (n ≡ wordCount book) × (enough book ≡ true)
   go true p q n g = ((cc), p)
   go false p q n g = let z : _≡_ {A = ℕ} 0 1 = cc in absurd (omega arith)
 
-  none : (t : Bool) → enough book ≡ t → r ≡ pick t (Counted (count book)) Short → r ≡ Short → enough book ≡ false
+  none : (t : Bool) → enough book ≡ t → r ≡ pick t (Counted (wordCount book)) Short → r ≡ Short → enough book ≡ false
   none true p q g = let z : _≡_ {A = ℕ} 0 1 = cc in absurd (omega arith)
   none false p q g = p
 
@@ -45,7 +45,7 @@ module _ (book : List ℕ) (r : Rows) (e : r ≡ rowsOf book) where
   is-short g = none (enough book) refl e g
 
   module _ (n : ℕ) (g : r ≡ Counted n) where
-    pub is-count : n ≡ count book
+    pub is-count : n ≡ wordCount book
     unfolding rowsOf
     is-count = go (enough book) refl e n g .0
 
@@ -61,7 +61,7 @@ module _ (book : List ℕ) (r : Rows) (e : r ≡ rowsOf book) where
 -- a row that was read
 module _ (book : List ℕ) (k : ℕ) (r : Row) where
   pub row-read : (n m : ℕ) → n ≡ u16At book 0 → m ≡ u16At book (2 + 4 * k) → r .start ≡ 2 + 4 * n + m → r .size ≡ getD book (2 + 4 * k + 2) 0 → r .flags ≡ getD book (2 + 4 * k + 3) 0 → r ≡ rowOf book k
-  unfolding rowOf wordAt startAt sizeAt count
+  unfolding rowOf wordAt startAt sizeAt wordCount
   row-read n m p q s z f = rw (← p, ← q, ← s, ← z, ← f)
 
   module _ (e : r ≡ rowOf book k) where

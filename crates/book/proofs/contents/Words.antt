@@ -4,7 +4,7 @@ use native.Mathlib.Omega.{arith}
 use native.Mathlib.Nat.{sub-zero}
 use mathlib.Core.List.{List, [], _∷_}
 use mathlib.Core.Path.{_≡_}
-use Rattle.book.specs.Contents.{count, wordAt, wordsFrom, words}
+use Rattle.book.specs.Contents.{wordCount, wordAt, wordsFrom, words}
 
 module _ (book : List ℕ) where
   -- the words from k on, by the first of them
@@ -17,6 +17,6 @@ module _ (book : List ℕ) where
     unfolding wordsFrom
     from-past h = let e : n - k ≡ 0 = omega arith in rw e
 
-  pub from-start : {n : ℕ} → n ≡ count book → words book ≡ wordsFrom book 0 (n - 0)
+  pub from-start : {n : ℕ} → n ≡ wordCount book → words book ≡ wordsFrom book 0 (n - 0)
   unfolding words
   from-start e = rw (sub-zero, e)

@@ -7,16 +7,16 @@ use mathlib.Core.Path.{_≡_, refl, sym, _∙_}
 use lib.ListN.{length}
 use borrow.Author.Tests.{lt-ltb, le-ltb}
 use Rattle.book.specs.Order.{compared}
-use Rattle.book.specs.Contents.{count, bodies, wordAt, enough}
+use Rattle.book.specs.Contents.{wordCount, bodies, wordAt, enough}
 use Rattle.book_lookup.specs.Seek.{middle, narrowed, soughtIn, soughtOf}
 use Rattle.book.specs.declared.order.Order.{Order}
 use Rattle.book.specs.declared.order.Order.the-variants.{Less, Equal, Greater}
-use Rattle.book_lookup.specs.declared.seek.Found.the-variants.{At, Nothing}
+use Rattle.book_lookup.specs.declared.seek.SoughtWord.the-variants.{At, Nothing}
 
 -- the word, if it is found, is found from lo up to hi
 pub record Seeking (book w : List ℕ) (lo hi : ℕ) : Type 0 where
   pub rows : bodies book ≤ length book
-  pub within : hi ≤ count book
+  pub within : hi ≤ wordCount book
   pub left : ℕ
   pub turns : hi ≤ lo + left
   pub rest : soughtOf book w ≡ soughtIn left book w lo hi
@@ -26,7 +26,7 @@ module _ (book w : List ℕ) where
   unfolding soughtOf
   short-book e = rw e
 
-  pub seeking-start : (n : ℕ) → enough book ≡ true → bodies book ≤ length book → n ≡ count book → Seeking book w 0 n
+  pub seeking-start : (n : ℕ) → enough book ≡ true → bodies book ≤ length book → n ≡ wordCount book → Seeking book w 0 n
   unfolding soughtOf
   seeking-start n e h c = record { rows = h; within = omega arith; left = n; turns = omega arith; rest = rw (e, c) }
 

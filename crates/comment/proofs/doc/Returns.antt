@@ -1,8 +1,8 @@
 -- The table of returns in front of the definition, row by row. Assumes nothing.
 use mathlib.Core.Bool.{true, false}
 use mathlib.Core.Path.{_≡_, refl}
-use Rattle.basis.specs.Words.{word}
-use Rattle.comment.specs.Doc.{begins, beginsOnly, isDocComment}
+use Rattle.basis.specs.Words.{word, begins}
+use Rattle.comment.specs.Doc.{beginsOnly, isDocComment}
 
 pub documents :
     (isDocComment (word "///") ≡ true)

@@ -16,7 +16,8 @@ use Rattle.utf8.proofs.Laws.{at-width, chars-char, chars-end, by-chars}
 use Rattle.utf8.proofs.Edges.{edge-step}
 use Rattle.chars.specs.Scan.{Turn, onTurn, follows, widths, run, runAt}
 use Rattle.chars.specs.declared.cursor.Cursor.{Cursor}
-use Rattle.comment.specs.Block.{lf, Inside, turn, rule, inside, commentOf}
+use Rattle.classes.specs.Marks.{lf}
+use Rattle.comment.specs.Block.{Inside, commentTurn, commentRule, inside, commentOf}
 use Rattle.comment.specs.declared.scan.Comment.{Comment}
 
 -- an end that a scan from an offset may come to
@@ -47,24 +48,24 @@ module _ (t : List ℕ) where
     abbrev Turned : Turn Inside (Unit {0}) Comment → Type 0
     Turned x = Reached t (at + w) (onTurn x (λ n k s. rest k s) (λ r. r) .cursor .at)
 
-    turned : (s : Inside) → Turned (turn at (ch c w ∷ charsAt t (at + w)) s)
-    unfolding turn
+    turned : (s : Inside) → Turned (commentTurn at (ch c w ∷ charsAt t (at + w)) s)
+    unfolding commentTurn
     turned s =
         pick-cases Turned (both (eqb c 0x2F) (follows 0x2A (charsAt t (at + w)))) _ _ (λ q. h _ _) (λ q.
         pick-cases Turned (both (eqb c 0x2A) (follows 0x2F (charsAt t (at + w)))) _ _
         (λ q. pick-cases Turned (eqb (s .level) 1) _ _ (λ q. next-one (at + w)) (λ q. h _ _))
         (λ q. pick-cases Turned (eqb c lf) _ _ (λ q. h _ _) (λ q. h _ _)))
 
-  every : (at k : ℕ) (s : Inside) → Reached t at (run rule k (charsAt t at) at s .cursor .at)
+  every : (at k : ℕ) (s : Inside) → Reached t at (run commentRule k (charsAt t at) at s .cursor .at)
   unfolding run
   every =
-      by-chars t (λ at. (k : ℕ) (s : Inside) → Reached t at (run rule k (charsAt t at) at s .cursor .at))
+      by-chars t (λ at. (k : ℕ) (s : Inside) → Reached t at (run commentRule k (charsAt t at) at s .cursor .at))
       (λ at e k s. rw (chars-end t at e) (stays at))
       (λ at c w e ih k s. rw (chars-char t at e) (passes at c w e ih k s))
     where
-      passes : (at c w : ℕ) → lookAt t at ≡ Char c w → ((k : ℕ) (s : Inside) → Reached t (at + w) (run rule k (charsAt t (at + w)) (at + w) s .cursor .at)) → (k : ℕ) (s : Inside)
-          → Reached t at (run rule k (ch c w ∷ charsAt t (at + w)) at s .cursor .at)
-      passes at c w e ih zero s = before e (turned at c w (λ k r. run rule k (charsAt t (at + w)) (at + w) r) ih s)
+      passes : (at c w : ℕ) → lookAt t at ≡ Char c w → ((k : ℕ) (s : Inside) → Reached t (at + w) (run commentRule k (charsAt t (at + w)) (at + w) s .cursor .at)) → (k : ℕ) (s : Inside)
+          → Reached t at (run commentRule k (ch c w ∷ charsAt t (at + w)) at s .cursor .at)
+      passes at c w e ih zero s = before e (turned at c w (λ k r. run commentRule k (charsAt t (at + w)) (at + w) r) ih s)
       passes at c w e ih (suc k) s = before e (ih k s)
 
   pub comment-reached : (start : Cursor) (level : ℕ) → Reached t (start .at) (commentOf t start level .cursor .at)

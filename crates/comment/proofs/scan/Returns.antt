@@ -6,12 +6,17 @@ use Rattle.basis.specs.Words.{word}
 use Rattle.position.specs.Place.{given, advanced, lined, onLine, up}
 use Rattle.utf8.specs.Table.{look, charsFrom, chars, charsAt, wellFrom, well, edge}
 use Rattle.chars.specs.Cursors.{cursor}
-use Rattle.door.specs.Door.{doorOf}
+use Rattle.door.specs.Door.{textOf, doorOf}
 use Rattle.chars.specs.Scan.{run, runAt, widths}
 use Rattle.fault.specs.Faults.{fault}
-use Rattle.comment.specs.Block.{comment, turn, commentOf, refusesOf, scanBlockCommentOf}
+use Rattle.comment.specs.Block.{comment, commentTurn, commentOf, commentRefuses, scanBlockCommentOf}
 use Rattle.comment.specs.declared.scan.Commented.{Commented}
 use Rattle.comment.specs.declared.scan.Commented.the-variants.{Done, Refused}
+
+-- what an example computes with: to unfold this is to unfold all that its line names
+scan-computes : Unit {0}
+unfolding given onLine look charsFrom chars charsAt wellFrom well edge textOf doorOf run runAt commentRefuses scanBlockCommentOf
+scan-computes = tt
 
 -- a scan from the start of a text, at 1:1, and what it reached
 abbrev scans : ℕ → List ℕ → Commented
@@ -30,7 +35,7 @@ pub returned :
     × (scans 2 (word "*/") ≡ reached 1 2 1 3)
     × (scans 65535 (word "/*") ≡ reached 65536 2 1 3)
     × (scans 1 [] ≡ reached 1 0 1 1)
-unfolding word given advanced lined up onLine look charsFrom chars charsAt wellFrom well edge doorOf run runAt widths turn commentOf refusesOf scanBlockCommentOf
+unfolding scan-computes word advanced lined up widths commentTurn commentOf
 returned = (refl, refl, refl, refl, refl, refl, refl, refl, refl)
 
 -- the arguments that are refused: a text that is not UTF-8, an offset past the end and one inside a character, line 0, and the levels next to the range
@@ -41,5 +46,5 @@ pub refused :
     × (scanBlockCommentOf [] 0 (given 0 1) 1 ≡ Refused (fault 3 (given 0 1)))
     × (scans 0 [] ≡ Refused (fault 3 (given 1 1)))
     × (scans 65536 [] ≡ Refused (fault 3 (given 1 1)))
-unfolding given onLine look charsFrom chars charsAt wellFrom well edge doorOf run runAt refusesOf scanBlockCommentOf
+unfolding scan-computes
 refused = (refl, refl, refl, refl, refl, refl)

@@ -25,8 +25,8 @@ use Rattle.chars.proofs.Follows.{followed, other-follows, nothing-follows}
 use Rattle.chars.proofs.Scans.{move-on, move-over, at-end, one-on, two-on, is-over}
 use Rattle.chars.proofs.Stretches.{is-other, stretched, stretch-low, stretch-high}
 use Rattle.chars.proofs.Stretches as stretches
-use Rattle.comment.specs.Block.{comment, Inside, inside, turn, rule, commentOf}
-use Rattle.comment.specs.Step.{eatIfOf, moveOf, asStep, Fine, Goes}
+use Rattle.comment.specs.Block.{comment, Inside, inside, commentTurn, commentRule, commentOf}
+use Rattle.comment.specs.Step.{eatIfOf, moveOf, asStep, LevelFits, TurnFits}
 use Rattle.comment.specs.declared.scan.Comment.{Comment}
 use Rattle.comment.specs.declared.scan.Step.the-variants.{On, Over}
 
@@ -39,7 +39,7 @@ further-on t s e =
     rw (k .stands) (omega arith, omega arith)
 
 -- one level up at most, further on, is fine
-pub still-fine : (n level : ℕ) (from : Cursor) {next : Cursor} {m : ℕ} → Fine n level from → (from .at < next .at) × (next .at ≤ n) → 1 ≤ m → m ≤ level + 1 → Goes n from (On m next)
+pub still-fine : (n level : ℕ) (from : Cursor) {next : Cursor} {m : ℕ} → LevelFits n level from → (from .at < next .at) × (next .at ≤ n) → 1 ≤ m → m ≤ level + 1 → TurnFits n from (On m next)
 still-fine n level from f h l u = (record { low = l; high = omega arith; within = h .1 }, h .0)
 
 -- a character taken if it is the one asked for
@@ -87,7 +87,7 @@ module _ (t : List ℕ) (level : ℕ) (from : Cursor) where
 
   pub ends : eatNextOf t from ≡ taken.End → Over level from ≡ asStep (moveOf t level from)
   unfolding moveOf
-  ends e = sym (ap asStep (at-end rule t (from .at) here (ate-ended t from e)))
+  ends e = sym (ap asStep (at-end commentRule t (from .at) here (ate-ended t from e)))
 
   module _ {c : ℕ} {next : Cursor} (e : eatNextOf t from ≡ taken.Char c next) where
     abbrev took : Took t (from .at) (advanced (from .place)) c next
@@ -105,39 +105,39 @@ module _ (t : List ℕ) (level : ℕ) (from : Cursor) where
         rw (← k .1, ← ap (λ (x : Cursor). x .at) (took .stands), ← ap (λ (x : Cursor). x .place) (took .stands)) (ate-took t next (k .0))
 
     pub slash : c ≡ 0x2F → eatIfOf t next 0x2A ≡ taken.End → On level next ≡ asStep (moveOf t level from)
-    unfolding moveOf turn
-    slash h f = rw (took .stands) (sym (ap asStep (one-on rule t (from .at) here (took .found) (rw (eq-eqb c 0x2F h, next-not 0x2A f, ne-eqb c 0x2A (λ q. omega arith), ne-eqb c 0x0A (λ q. omega arith))))))
+    unfolding moveOf commentTurn
+    slash h f = rw (took .stands) (sym (ap asStep (one-on commentRule t (from .at) here (took .found) (rw (eq-eqb c 0x2F h, next-not 0x2A f, ne-eqb c 0x2A (λ q. omega arith), ne-eqb c 0x0A (λ q. omega arith))))))
 
     pub opens : c ≡ 0x2F → {d : ℕ} {after : Cursor} → eatIfOf t next 0x2A ≡ taken.Char d after → On (level + 1) after ≡ asStep (moveOf t level from)
-    unfolding moveOf turn
+    unfolding moveOf commentTurn
     opens h f =
         let k = pair 0x2A f in
-        rw (k .stands) (sym (ap asStep (two-on rule t (from .at) here (took .found) (k .found) (rw (eq-eqb c 0x2F h, followed t _ 0x2A (k .found) refl)))))
+        rw (k .stands) (sym (ap asStep (two-on commentRule t (from .at) here (took .found) (k .found) (rw (eq-eqb c 0x2F h, followed t _ 0x2A (k .found) refl)))))
 
     pub star : c ≡ 0x2A → eatIfOf t next 0x2F ≡ taken.End → On level next ≡ asStep (moveOf t level from)
-    unfolding moveOf turn
-    star h f = rw (took .stands) (sym (ap asStep (one-on rule t (from .at) here (took .found) (rw (ne-eqb c 0x2F (λ q. omega arith), eq-eqb c 0x2A h, next-not 0x2F f, ne-eqb c 0x0A (λ q. omega arith))))))
+    unfolding moveOf commentTurn
+    star h f = rw (took .stands) (sym (ap asStep (one-on commentRule t (from .at) here (took .found) (rw (ne-eqb c 0x2F (λ q. omega arith), eq-eqb c 0x2A h, next-not 0x2F f, ne-eqb c 0x0A (λ q. omega arith))))))
 
     module _ (h : c ≡ 0x2A) {d : ℕ} {after : Cursor} (f : eatIfOf t next 0x2F ≡ taken.Char d after) where
       pub closes-last : level ≡ 1 → Over 0 after ≡ asStep (moveOf t level from)
-      unfolding moveOf turn widths
+      unfolding moveOf commentTurn widths
       closes-last n =
           let k = pair 0x2F f in
-          rw (k .stands) (sym (ap asStep (is-over rule t (from .at) here (took .found) (rw (ne-eqb c 0x2F (λ q. omega arith), eq-eqb c 0x2A h, followed t _ 0x2F (k .found) refl, eq-eqb level 1 n, chars-char t _ (k .found), add-zero)))))
+          rw (k .stands) (sym (ap asStep (is-over commentRule t (from .at) here (took .found) (rw (ne-eqb c 0x2F (λ q. omega arith), eq-eqb c 0x2A h, followed t _ 0x2F (k .found) refl, eq-eqb level 1 n, chars-char t _ (k .found), add-zero)))))
 
       pub closes : (level ≡ 1 → ⊥) → On (level - 1) after ≡ asStep (moveOf t level from)
-      unfolding moveOf turn
+      unfolding moveOf commentTurn
       closes n =
           let k = pair 0x2F f in
-          rw (k .stands) (sym (ap asStep (two-on rule t (from .at) here (took .found) (k .found) (rw (ne-eqb c 0x2F (λ q. omega arith), eq-eqb c 0x2A h, followed t _ 0x2F (k .found) refl, ne-eqb level 1 n)))))
+          rw (k .stands) (sym (ap asStep (two-on commentRule t (from .at) here (took .found) (k .found) (rw (ne-eqb c 0x2F (λ q. omega arith), eq-eqb c 0x2A h, followed t _ 0x2F (k .found) refl, ne-eqb level 1 n)))))
 
     pub new-line : c ≡ 0x0A → On level (cursor (next .at) (lined (next .place))) ≡ asStep (moveOf t level from)
-    unfolding moveOf turn
-    new-line h = rw (took .stands) (sym (ap asStep (one-on rule t (from .at) here (took .found) (rw (ne-eqb c 0x2F (λ q. omega arith), ne-eqb c 0x2A (λ q. omega arith), eq-eqb c 0x0A h)))))
+    unfolding moveOf commentTurn
+    new-line h = rw (took .stands) (sym (ap asStep (one-on commentRule t (from .at) here (took .found) (rw (ne-eqb c 0x2F (λ q. omega arith), ne-eqb c 0x2A (λ q. omega arith), eq-eqb c 0x0A h)))))
 
     pub plain : (c ≡ 0x2F → ⊥) → (c ≡ 0x2A → ⊥) → (c ≡ 0x0A → ⊥) → On level next ≡ asStep (moveOf t level from)
-    unfolding moveOf turn
-    plain n m l = rw (took .stands) (sym (ap asStep (one-on rule t (from .at) here (took .found) (rw (ne-eqb c 0x2F n, ne-eqb c 0x2A m, ne-eqb c 0x0A l)))))
+    unfolding moveOf commentTurn
+    plain n m l = rw (took .stands) (sym (ap asStep (one-on commentRule t (from .at) here (took .found) (rw (ne-eqb c 0x2F n, ne-eqb c 0x2A m, ne-eqb c 0x0A l)))))
 
 -- ---- the loop: a turn that goes on leaves the answer as it is, and one that is over gives it
 on-is : {n m : ℕ} {r s : Cursor} → On n s ≡ On m r → comment n s ≡ comment m r
@@ -155,7 +155,7 @@ module _ (t : List ℕ) (level : ℕ) (from : Cursor) (m : ℕ) (next : Cursor) 
   goes-on e = go (moveOf t level from) refl e
     where
       go : (x : Move Inside (Unit {0}) Comment) → moveOf t level from ≡ x → On m next ≡ asStep x → commentOf t from level ≡ commentOf t next m
-      go (on n at o) q h = move-on rule t (from .at) (here t level from) q ∙ ap (λ (x : Comment). commentOf t (x .cursor) (x .level)) (on-is (sym h))
+      go (on n at o) q h = move-on commentRule t (from .at) (here t level from) q ∙ ap (λ (x : Comment). commentOf t (x .cursor) (x .level)) (on-is (sym h))
       go (over x) q h = apart h
 
   pub is-done : Over m next ≡ asStep (moveOf t level from) → commentOf t from level ≡ comment m next
@@ -164,7 +164,7 @@ module _ (t : List ℕ) (level : ℕ) (from : Cursor) (m : ℕ) (next : Cursor) 
     where
       go : (x : Move Inside (Unit {0}) Comment) → moveOf t level from ≡ x → Over m next ≡ asStep x → commentOf t from level ≡ comment m next
       go (on n at o) q h = apart (sym h)
-      go (over x) q h = move-over rule t (from .at) (here t level from) q ∙ over-is (sym h)
+      go (over x) q h = move-over commentRule t (from .at) (here t level from) q ∙ over-is (sym h)
 
 -- ---- characters that only take a column, passed at once
 abbrev pub Plain : ℕ → Type 0
@@ -174,18 +174,18 @@ module _ (t : List ℕ) (level : ℕ) (from : Cursor) where
   abbrev after : ℕ → Inside
   after k = inside level (advancedBy k (from .place))
 
-  one-passed : (k b c w : ℕ) → lookAt t b ≡ Char c w → Plain c → stretches.Plain rule t after (λ b r. r) k b w
-  unfolding turn
+  one-passed : (k b c w : ℕ) → lookAt t b ≡ Char c w → Plain c → stretches.Plain commentRule t after (λ b r. r) k b w
+  unfolding commentTurn
   one-passed k b c w e y =
       let n = is-other 0x2F 0x2A 0x0A 0x0A 0x0A c y in
-      stretches.plain-turn rule t after (λ b r. r) e (rw (n .0, n .1, n .2, advanced-by-more k (from .place))) (λ r. refl)
+      stretches.plain-turn commentRule t after (λ b r. r) e (rw (n .0, n .1, n .2, advanced-by-more k (from .place))) (λ r. refl)
 
   module _ {k b : ℕ} (p : Stretch t Plain (from .at) k b) {q : Position} (m : q ≡ advancedBy k (from .place)) where
     pub passes : commentOf t from level ≡ commentOf t (cursor b q) level
     unfolding commentOf
     passes =
-        ap (λ (x : Position). runAt rule t (from .at) (inside level x)) (sym (advanced-by-none (from .place)))
-        ∙ rw m (stretched rule t after (λ b r. r) Plain (from .at) b (λ k b c w h l. one-passed k b c w) p (omega arith))
+        ap (λ (x : Position). runAt commentRule t (from .at) (inside level x)) (sym (advanced-by-none (from .place)))
+        ∙ rw m (stretched commentRule t after (λ b r. r) Plain (from .at) b (λ k b c w h l. one-passed k b c w) p (omega arith))
 
-    pub passed-fine : Fine (length t) level from → Fine (length t) level (cursor b q)
+    pub passed-fine : LevelFits (length t) level from → LevelFits (length t) level (cursor b q)
     passed-fine f = record { low = f .low; high = omega (arith, f .high, stretch-low p); within = stretch-high p (f .within) }

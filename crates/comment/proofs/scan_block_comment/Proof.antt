@@ -11,6 +11,7 @@ scan-block-comment-spec =
     tie.close
     (tie.spec
     (λ c κs. search needs)
-    (λ c. refused _ _ _ _ (c .before .refuses .ensures) (c .if1 .taken))
+    (λ c κs. search needs)
+    (λ c. rw (c .at .ensures) (refused _ _ _ _ (c .before .before .refuses .ensures) (c .before .if1 .taken)))
     (λ c κs. nothing-refused _ _ _ _ (c .before .refuses .ensures) (c .if1 .left))
     (λ c. ap Done (c .scan .ensures) ∙ done _ _ _ _ (c .before .before .refuses .ensures) (c .before .if1 .left)))

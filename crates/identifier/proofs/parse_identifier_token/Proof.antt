@@ -14,7 +14,9 @@ returns c =
     c .identify .ensures ∙ sym (let-in _ _ _ _ (sym (test .before .argument .ensures) ∙ test .if1 .taken))
 
 returns-2 : tie.Need-returns-2
-returns-2 c = rw (c .before .argument .ensures) (sym (refused _ _ _ _ (λ e. c .if1 .left (c .before .argument .ensures ∙ e))))
+returns-2 c =
+    let test = c .before in
+    rw (c .at .ensures, test .before .argument .ensures) (sym (refused _ _ _ _ (λ e. test .if1 .left (test .before .argument .ensures ∙ e))))
 
 pub parse-identifier-token-spec : {M : Type 1} → statement M
 parse-identifier-token-spec =
@@ -23,4 +25,5 @@ parse-identifier-token-spec =
     (λ c κs. search needs)
     identify-requires
     returns
+    (λ c κs. search needs)
     returns-2)

@@ -13,7 +13,7 @@ use Rattle.chars.specs.declared.cursor.Cursor.{Cursor}
 use Rattle.fault.specs.Faults.{Own}
 use Rattle.chars.specs.declared.stretch.Stretch.the-variants as Stretch
 use Rattle.chars.proofs.stretch.Ends.{end-reached}
-use Rattle.identifier.specs.Identifiers.{answered, spanned, begun, identifyOf}
+use Rattle.identifier.specs.Identifiers.{identifiedAs, spanned, identifiedFrom, identifyOf}
 use Rattle.identifier.specs.declared.scan.Word.{Word}
 use Rattle.identifier.specs.declared.scan.Class.{Class}
 use Rattle.identifier.specs.declared.scan.Class.the-variants.{Is, Malformed}
@@ -25,13 +25,13 @@ module _ (t book : List ℕ) (s : Cursor) where
   Ahead (Found w) = (s .at < w .cursor .at) × (w .cursor .at ≤ length t)
   Ahead (Refused f e) = Own f
 
-  answered-ahead : (e : Cursor) → (s .at < e .at) × (e .at ≤ length t) → (x : Class) → Ahead (answered s e x)
-  unfolding answered
+  answered-ahead : (e : Cursor) → (s .at < e .at) × (e .at ≤ length t) → (x : Class) → Ahead (identifiedAs s e x)
+  unfolding identifiedAs
   answered-ahead e h (Is k w) = h
   answered-ahead e h Malformed = (λ q. omega arith, λ q. omega arith, λ q. omega arith)
 
-  begun-ahead : (x : Look) → lookAt t (s .at) ≡ x → Ahead (begun t book s x)
-  unfolding begun spanned
+  begun-ahead : (x : Look) → lookAt t (s .at) ≡ x → Ahead (identifiedFrom t book s x)
+  unfolding identifiedFrom spanned
   begun-ahead (look.Char c w) e =
       let h = at-width t (s .at) e in
       let r = end-reached Stretch.Word t (cursor (s .at + w) (s .place)) in

@@ -7,7 +7,7 @@ use lib.ListN.{length, getD, drop}
 use borrow.Author.Tests.{eq-eqb, ne-eqb}
 use Rattle.basis.proofs.Bytes.{here, past}
 use Rattle.classes.specs.Class.{isIdFirstAlphabetic, isIdContinue}
-use Rattle.identifier.specs.Valid.{afterUnderscores, goesOn, letterFirst, isValidIdentifier}
+use Rattle.identifier.specs.Valid.{afterUnderscores, allContinue, letterFirst, isValidIdentifier}
 
 module _ (w : List ℕ) (i : ℕ) where
   module _ (h : i < length w) where
@@ -21,16 +21,16 @@ module _ (w : List ℕ) (i : ℕ) where
     no-underscore n = rw (here w i h, ne-eqb (getD w i 0) 0x5F n)
 
     -- a byte that goes on is passed, and any other decides
-    pub on : isIdContinue (getD w i 0) ≡ true → goesOn (drop i w) ≡ goesOn (drop (i + 1) w)
-    unfolding goesOn
+    pub on : isIdContinue (getD w i 0) ≡ true → allContinue (drop i w) ≡ allContinue (drop (i + 1) w)
+    unfolding allContinue
     on y = rw (here w i h, y)
 
-    pub off : isIdContinue (getD w i 0) ≡ false → goesOn (drop i w) ≡ false
-    unfolding goesOn
+    pub off : isIdContinue (getD w i 0) ≡ false → allContinue (drop i w) ≡ false
+    unfolding allContinue
     off n = rw (here w i h, n)
 
     -- a letter first, or none
-    pub letter : drop i w ≡ afterUnderscores w → isIdFirstAlphabetic (getD w i 0) ≡ true → isValidIdentifier w ≡ goesOn (drop (i + 1) w)
+    pub letter : drop i w ≡ afterUnderscores w → isIdFirstAlphabetic (getD w i 0) ≡ true → isValidIdentifier w ≡ allContinue (drop (i + 1) w)
     unfolding isValidIdentifier letterFirst
     letter e y = rw (← e, here w i h, y)
 
@@ -43,8 +43,8 @@ module _ (w : List ℕ) (i : ℕ) where
     unfolding afterUnderscores
     all-underscores = rw (past w i h)
 
-    pub all-on : goesOn (drop i w) ≡ true
-    unfolding goesOn
+    pub all-on : allContinue (drop i w) ≡ true
+    unfolding allContinue
     all-on = rw (past w i h)
 
     pub nothing-left : drop i w ≡ afterUnderscores w → isValidIdentifier w ≡ false

@@ -5,22 +5,25 @@ use mathlib.Core.List.{List}
 use mathlib.Core.Path.{_≡_}
 use lib.ListN.{length}
 use borrow.Author.Needs.{needs}
-use Rattle.token.specs.Spelt.{numberOf}
+use Rattle.token.specs.Spelt.{wordNumber}
 use Rattle.token.proofs.word_table.Numbers.{Bytes}
 use Rattle.keywords.proofs.Sought.{Sought, empty-none, long-none, length-none, sought-first, sought-end, sought-next, found, left, goes-on}
 use Rattle.keywords.proofs.lookup_symbol_from_syntax.Statement.{statement}
 use Rattle.keywords.proofs.lookup_symbol_from_syntax.Tie as tie
 
 abbrev Inv-loop : tie.InvT-loop
-Inv-loop text b token₀ v token = Bytes text × (v ≡ numberOf text) × Sought text token × (token < 256)
+Inv-loop text b token₀ v token = Bytes text × (v ≡ wordNumber text) × Sought text token × (token < 256)
 
 abbrev μ-loop : tie.MeasureT-loop
 μ-loop text b token₀ v token = left 5 token
 
 -- the text's first byte is read
 module _ (k : tie.After-shared-slice-known2 Inv-loop μ-loop) where
+  abbrev begin : tie.Start Inv-loop μ-loop
+  begin = k .before .before .before .before
+
   abbrev text : List ℕ
-  text = k .before .before .before .before .args .text .now
+  text = begin .args .text .now
 
   some : length text ≡ 0 → ⊥
   some = k .before .before .if1 .left

@@ -8,7 +8,7 @@ use lib.Dec.{T, eqb}
 use borrow.Author.Tests.{eqb-true}
 use Rattle.basis.specs.Pick.{pick, both, either}
 use Rattle.basis.proofs.Cases.{pick-cases, true-left, true-right}
-use Rattle.token.specs.Tokens.{among}
+use Rattle.token.specs.Tokens.{amongTokens}
 use Rattle.token.specs.declared.Lookup.{Lookup}
 use Rattle.token.specs.declared.Lookup.the-variants.{Some, None}
 use Rattle.operators.specs.Assignments.{Pair, pairs, assignments, operators, isOpAssignment, hasOpAssignment, operatorIn, assignmentIn, baseOpOf, opAssignmentOf}
@@ -69,21 +69,21 @@ isSome (Some t) = true
 isSome None = false
 
 module _ (t : ℕ) where
-  in-assignments : (ps : List Pair) → among (assignments ps) t ≡ isSome (operatorIn ps t)
-  unfolding among operatorIn
+  in-assignments : (ps : List Pair) → amongTokens (assignments ps) t ≡ isSome (operatorIn ps t)
+  unfolding amongTokens operatorIn
   in-assignments [] = refl
   in-assignments (p ∷ ps) = go (eqb t (p .assignment)) (in-assignments ps)
     where
-      go : (x : Bool) → among (assignments ps) t ≡ isSome (operatorIn ps t) → either x (among (assignments ps) t) ≡ isSome (pick x (Some (p .operator)) (operatorIn ps t))
+      go : (x : Bool) → amongTokens (assignments ps) t ≡ isSome (operatorIn ps t) → either x (amongTokens (assignments ps) t) ≡ isSome (pick x (Some (p .operator)) (operatorIn ps t))
       go true h = refl
       go false h = h
 
-  in-operators : (ps : List Pair) → among (operators ps) t ≡ isSome (assignmentIn ps t)
-  unfolding among assignmentIn
+  in-operators : (ps : List Pair) → amongTokens (operators ps) t ≡ isSome (assignmentIn ps t)
+  unfolding amongTokens assignmentIn
   in-operators [] = refl
   in-operators (p ∷ ps) = go (eqb t (p .operator)) (in-operators ps)
     where
-      go : (x : Bool) → among (operators ps) t ≡ isSome (assignmentIn ps t) → either x (among (operators ps) t) ≡ isSome (pick x (Some (p .assignment)) (assignmentIn ps t))
+      go : (x : Bool) → amongTokens (operators ps) t ≡ isSome (assignmentIn ps t) → either x (amongTokens (operators ps) t) ≡ isSome (pick x (Some (p .assignment)) (assignmentIn ps t))
       go true h = refl
       go false h = h
 

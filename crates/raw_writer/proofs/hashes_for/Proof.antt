@@ -17,11 +17,12 @@ abbrev μ-loop : tie.MeasureT-loop
 
 loop-again : tie.Need-loop-again Inv-loop μ-loop
 loop-again c =
-    let top = c .before .before .before .before in
+    let test = c .before .before .before in
+    let top = test .before in
     let grows = held-grows (top .loop .held) (getD (top .before .before .args .body .now) (top .loop .i) 0) in (
       omega arith,
       omega arith,
-      rw (top .loop .inv .2, measure-turn _ _ _ _ (c .before .before .before .loop-test .taken), ← c .before .next-held .ensures, ← c .larger .ensures),
+      rw (top .loop .inv .2, measure-turn _ _ _ _ (test .loop-test .taken), ← c .before .next-held .ensures, ← c .larger .ensures),
     )
 
 pub hashes-for-spec : {M : Type 1} → statement M

@@ -9,7 +9,7 @@ use Rattle.raw_writer.proofs.raw_write.Statement.{statement}
 use Rattle.raw_writer.proofs.raw_write.Tie as tie
 
 returns : tie.Need-returns
-returns c = (refused _ _ (c .before .refuses .ensures) (c .if1 .taken), untouched _ _ (c .before .refuses .ensures) (c .if1 .taken))
+returns c = (refused _ _ (c .before .text .ensures) (c .if1 .taken), untouched _ _ (c .before .text .ensures) (c .if1 .taken))
 
 -- a body that was measured
 module _ (m : tie.After-hashes-for) where
@@ -22,14 +22,14 @@ module _ (m : tie.After-hashes-for) where
   -- is short enough, and so are its hashes few enough, to add their lengths
   small : (length (start .args .body .now) ≤ 16777216) × (m .hashes-for .result ≤ 16777217)
   small =
-      let short : length (start .args .body .now) ≤ 16777216 = is-short _ (tested .before .refuses .ensures) (tested .if1 .left) in
+      let short : length (start .args .body .now) ≤ 16777216 = is-short _ (tested .before .text .ensures) (tested .if1 .left) in
       (short, rw (m .hashes-for .ensures) (omega (arith, hashes-short (start .args .body .now))))
 
 returns-2 : tie.Need-returns-2
 returns-2 c =
     let asked = tested (c .before) in (
-      no-room _ _ (asked .before .refuses .ensures) (asked .if1 .left) (c .before .hashes-for .ensures) (c .if2 .taken),
-      left-alone _ _ (asked .before .refuses .ensures) (asked .if1 .left) (c .before .hashes-for .ensures) (c .if2 .taken),
+      no-room _ _ (asked .before .text .ensures) (asked .if1 .left) (c .before .hashes-for .ensures) (c .if2 .taken),
+      left-alone _ _ (asked .before .text .ensures) (asked .if1 .left) (c .before .hashes-for .ensures) (c .if2 .taken),
     )
 
 write-requires : tie.Need-write-requires
@@ -37,15 +37,16 @@ write-requires c κs =
     let room = c .before in
     let asked = tested (room .before) in (
       room .before .hashes-for .ensures,
-      has-room _ (start (room .before) .args .out .now) (asked .before .refuses .ensures) (asked .if1 .left) (room .before .hashes-for .ensures) (room .if2 .left),
+      has-room _ (start (room .before) .args .out .now) (asked .before .text .ensures) (asked .if1 .left) (room .before .hashes-for .ensures) (room .if2 .left),
     )
 
 returns-3 : tie.Need-returns-3
 returns-3 c =
-    let room = c .before .before .before .before in
+    let call = c .before .before in
+    let room = call .before .before in
     let asked = tested (room .before) in (
-      done _ _ (asked .before .refuses .ensures) (asked .if1 .left) (room .before .hashes-for .ensures) (room .if2 .left),
-      written _ _ (asked .before .refuses .ensures) (asked .if1 .left) (room .before .hashes-for .ensures) (room .if2 .left) (c .before .before .write .ensures),
+      done _ _ (asked .before .text .ensures) (asked .if1 .left) (room .before .hashes-for .ensures) (room .if2 .left),
+      written _ _ (asked .before .text .ensures) (asked .if1 .left) (room .before .hashes-for .ensures) (room .if2 .left) (call .write .ensures),
     )
 
 pub raw-write-spec : {M : Type 1} → statement M
@@ -54,7 +55,7 @@ raw-write-spec =
     (tie.spec
     (λ c κs. search needs)
     returns
-    (λ c κs. is-short _ (c .before .refuses .ensures) (c .if1 .left))
+    (λ c κs. is-short _ (c .before .text .ensures) (c .if1 .left))
     (λ c. omega (arith, small c .0, small c .1))
     (λ c. omega (arith, small c .0, small c .1))
     (λ c. omega (arith, small c .0, small c .1))

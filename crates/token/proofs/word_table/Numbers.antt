@@ -13,7 +13,7 @@ use Rattle.basis.specs.Pick.{both}
 use Rattle.basis.proofs.Bounds.{split}
 use Rattle.basis.proofs.Bytes.{here, past}
 use Rattle.basis.proofs.Cases.{true-left, true-right}
-use Rattle.token.specs.Spelt.{numberFrom, numberOf}
+use Rattle.token.specs.Spelt.{numberFrom, wordNumber}
 
 -- each byte is one
 abbrev pub Bytes : List ℕ → Type 0
@@ -53,8 +53,8 @@ no-longer (b ∷ s) w l p q u v h k e =
     (split (length w) (length s))
 
 -- texts of one number that begin with another byte than 0
-pub number-same : (w s : List ℕ) → Bytes w → Bytes s → 1 ≤ getD w 0 0 → 1 ≤ getD s 0 0 → numberOf w ≡ numberOf s → w ≡ s
-unfolding numberOf numberFrom
+pub number-same : (w s : List ℕ) → Bytes w → Bytes s → 1 ≤ getD w 0 0 → 1 ≤ getD s 0 0 → wordNumber w ≡ wordNumber s → w ≡ s
+unfolding wordNumber numberFrom
 number-same [] s p q h k e = absurd (omega arith)
 number-same (a ∷ w) [] p q h k e = absurd (omega arith)
 number-same (a ∷ w) (b ∷ s) p q h k e =
@@ -79,8 +79,8 @@ grows [] v = le-refl v
 grows (b ∷ s) v = omega (arith, grows s (v * 256 + b))
 
 -- a text that begins with another byte than 0 has another number
-pub positive : (s : List ℕ) → 1 ≤ getD s 0 0 → 1 ≤ numberOf s
-unfolding numberOf numberFrom
+pub positive : (s : List ℕ) → 1 ≤ getD s 0 0 → 1 ≤ wordNumber s
+unfolding wordNumber numberFrom
 positive [] h = absurd (omega arith)
 positive (b ∷ s) h = omega (arith, h, grows s (0 * 256 + b))
 
@@ -123,14 +123,14 @@ module _ (s : List ℕ) where
     pub within : i ≤ length s
     pub few : length s ≤ 8
     pub small : v < bound i
-    pub is : numberFrom v (drop i s) ≡ numberOf s
+    pub is : numberFrom v (drop i s) ≡ wordNumber s
 
   pub read-none : length s ≤ 8 → Read 0 0
-  unfolding bound numberOf
+  unfolding bound wordNumber
   read-none h = record { within = omega arith; few = h; small = omega arith; is = refl }
 
   module _ (v i : ℕ) (r : Read v i) where
-    pub read-all : length s ≤ i → v ≡ numberOf s
+    pub read-all : length s ≤ i → v ≡ wordNumber s
     unfolding numberFrom
     read-all h = rw (past s i h) at (r .is)
 

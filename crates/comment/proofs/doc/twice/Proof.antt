@@ -5,6 +5,11 @@ use Rattle.comment.proofs.doc.Words.{short, no-slash, no-second, no-thi
 use Rattle.comment.proofs.doc.twice.Statement.{statement}
 use Rattle.comment.proofs.doc.twice.Tie as tie
 
+returns-3 : tie.Need-returns-3
+returns-3 c =
+    let first = c .before .before in
+    sym (no-second _ _ (first .before .before .if1 .left) (first .if2 .left) (c .if3 .taken))
+
 returns-4 : tie.Need-returns-4
 returns-4 c =
     let second = c .before .before in
@@ -33,7 +38,7 @@ twice-spec =
     (λ c. search needs)
     (λ c. sym (no-slash _ _ (c .before .before .if1 .left) (c .if2 .taken)))
     (λ c. search needs)
-    (λ c. sym (no-second _ _ (c .before .before .before .before .if1 .left) (c .before .before .if2 .left) (c .if3 .taken)))
+    returns-3
     (λ c. search needs)
     returns-4
     returns-5

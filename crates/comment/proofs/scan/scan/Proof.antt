@@ -9,14 +9,14 @@ use Rattle.chars.specs.Cursors.{cursor}
 use Rattle.chars.specs.declared.cursor.Cursor.{Cursor}
 use Rattle.chars.proofs.Stretches.{stretch-low}
 use Rattle.comment.specs.Block.{commentOf}
-use Rattle.comment.specs.Step.{Fine, Goes}
+use Rattle.comment.specs.Step.{LevelFits, TurnFits}
 use Rattle.comment.specs.declared.scan.Step.the-variants.{On}
 use Rattle.comment.proofs.scan.Turns.{goes-on, is-done, passes, passed-fine}
 use Rattle.comment.proofs.scan.scan.Statement.{statement}
 use Rattle.comment.proofs.scan.scan.Tie as tie
 
 abbrev Inv-loop : tie.InvT-loop
-Inv-loop text level depth₀ cursor₀ depth cursor = Fine (length text) depth cursor × (commentOf text cursor₀ depth₀ ≡ commentOf text cursor depth)
+Inv-loop text level depth₀ cursor₀ depth cursor = LevelFits (length text) depth cursor × (commentOf text cursor₀ depth₀ ≡ commentOf text cursor depth)
 
 abbrev μ-loop : tie.MeasureT-loop
 μ-loop text level depth₀ cursor₀ depth cursor = length text - cursor .at
@@ -32,7 +32,7 @@ module _ (k : tie.After-advanced-by Inv-loop μ-loop) where
   abbrev here : Cursor
   here = cursor (k .before .pass .result .at) (k .advanced-by .result)
 
-  fine : Fine (length text) (top .loop .depth) here
+  fine : LevelFits (length text) (top .loop .depth) here
   fine = passed-fine _ _ _ (k .before .pass .ensures .0) (k .advanced-by .ensures) (top .loop .inv .0)
 
   same : commentOf text (top .loop .cursor) (top .loop .depth) ≡ commentOf text here (top .loop .depth)
@@ -43,8 +43,8 @@ module _ (c : tie.After-known-told Inv-loop μ-loop) where
   abbrev turned : tie.After-turn Inv-loop μ-loop
   turned = c .before .before .before
 
-  gone : Goes (length (text (turned .before))) (here (turned .before)) (On (c .before .step .given .0 .0) (c .before .step .given .0 .1 .0))
-  gone = subst (Goes (length (text (turned .before))) (here (turned .before))) (c .before .step .given .1) (turned .turn .ensures .1)
+  gone : TurnFits (length (text (turned .before))) (here (turned .before)) (On (c .before .step .given .0 .0) (c .before .step .given .0 .1 .0))
+  gone = subst (TurnFits (length (text (turned .before))) (here (turned .before))) (c .before .step .given .1) (turned .turn .ensures .1)
 
 loop-less : tie.Need-loop-less Inv-loop μ-loop
 loop-less c = let k = turned c .before in omega (arith, gone c, stretch-low (k .before .pass .ensures .0))

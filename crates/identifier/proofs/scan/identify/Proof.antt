@@ -8,7 +8,7 @@ use lib.ListN.{length}
 use Rattle.chars.specs.Cursors.{getNextOf}
 use Rattle.chars.specs.declared.cursor.Cursor.{Cursor}
 use Rattle.chars.specs.declared.cursor.Taken.the-variants as taken
-use Rattle.identifier.specs.Identifiers.{answered, spanned, identifyOf, classOf, between}
+use Rattle.identifier.specs.Identifiers.{identifiedAs, spanned, identifyOf, classOf, textBetween}
 use Rattle.identifier.proofs.scan.Answers.{nothing-there, begins-here, first-within}
 use Rattle.identifier.proofs.scan.identify.Statement.{statement}
 use Rattle.identifier.proofs.scan.identify.Tie as tie
@@ -45,24 +45,30 @@ module _ (k : tie.After-end-of) where
       (omega (arith, f .0, k .end-of .ensures .1 .0), k .end-of .ensures .1 .1 (f .1))
 
   -- the answer, by the class of what stands between
-  whole : identifyOf text book start ≡ answered start end (classOf book (between text start end))
+  whole : identifyOf text book start ≡ identifiedAs start end (classOf book (textBetween text start end))
   unfolding spanned
   whole = begins-here text book start got ∙ ap (spanned text book start) (sym (k .end-of .ensures .0))
 
+returns : tie.Need-returns
+returns c =
+    let told = c .before in
+    rw (c .at .ensures) (sym (nothing-there _ _ _ (sym (told .before .before .get-next .ensures) ∙ told .enum-told .given .1)))
+
 returns-2 : tie.Need-returns-2
-unfolding answered
+unfolding identifiedAs
 returns-2 c =
-    let call = c .before .before in
+    let told = c .before in
+    let call = told .before .before in
     let k = call .before .before in
-    sym (whole k ∙ ap (answered (start k) (end k)) (sym (call .class-of .ensures) ∙ c .enum-told2 .given .1))
+    rw (c .about .ensures) (sym (whole k ∙ ap (identifiedAs (start k) (end k)) (sym (call .class-of .ensures) ∙ told .enum-told2 .given .1)))
 
 returns-3 : tie.Need-returns-3
-unfolding answered
+unfolding identifiedAs
 returns-3 c =
     let told = c .before in
     let call = told .before .before in
     let k = call .before .before in
-    sym (whole k ∙ ap (answered (start k) (end k)) (sym (call .class-of .ensures) ∙ told .kind .given .1))
+    sym (whole k ∙ ap (identifiedAs (start k) (end k)) (sym (call .class-of .ensures) ∙ told .kind .given .1))
 
 pub identify-spec : {M : Type 1} → statement M
 identify-spec =
@@ -71,7 +77,8 @@ identify-spec =
     (λ c κs. search needs)
     (λ c. search needs)
     (λ c. search needs)
-    (λ c. sym (nothing-there _ _ _ (sym (c .before .before .get-next .ensures) ∙ c .enum-told .given .1)))
+    (λ c κs. search needs)
+    returns
     (λ c κs. search needs)
     (λ c. omega (arith, room c))
     (λ c. omega (arith, room c))
@@ -79,6 +86,7 @@ identify-spec =
     (λ c κs. search needs)
     (λ c. search needs)
     (λ c. search needs)
-    (λ c. omega (arith, room (c .before .before .before .before)))
+    (λ c. let call = c .before .before in omega (arith, room (call .before .before)))
+    (λ c κs. search needs)
     returns-2
     returns-3)

@@ -4,13 +4,13 @@ use native.Mathlib.Omega.{arith}
 use mathlib.Core.Path.{_≡_, refl, sym, _∙_}
 use borrow.Author.Needs.{needs}
 use lib.ListN.{length, drop}
-use Rattle.identifier.specs.Valid.{goesOn}
+use Rattle.identifier.specs.Valid.{allContinue}
 use Rattle.identifier.proofs.valid.Valids.{on, off, all-on}
 use Rattle.identifier.proofs.valid.goes_on.Statement.{statement}
 use Rattle.identifier.proofs.valid.goes_on.Tie as tie
 
 abbrev Inv-loop : tie.InvT-loop
-Inv-loop name from i₀ i = (i ≤ length name) × (goesOn (drop from name) ≡ goesOn (drop i name))
+Inv-loop name from i₀ i = (i ≤ length name) × (allContinue (drop from name) ≡ allContinue (drop i name))
 
 abbrev μ-loop : tie.MeasureT-loop
 μ-loop name from i₀ i = length name - i

@@ -1,7 +1,7 @@
 -- Each arm has the answer of the definition: one computed test over the numbers, as the compiler tests them.
 use Prim.Native.Nat.{zero-le}
 use mathlib.Core.List.{List, [], _∷_}
-use Rattle.token.specs.Tokens.{among}
+use Rattle.token.specs.Tokens.{amongTokens}
 use Rattle.token.specs.declared.Lookup.{Lookup}
 use Rattle.token.specs.declared.Lookup.the-variants.{Some, None}
 use Rattle.operators.specs.Assignments.{Pair, pairs, assignmentIn, opAssignmentOf}
@@ -20,11 +20,11 @@ abbrev runs : List (Run Lookup)
 runs = run 0 256 None ∷ []
 
 on-arm : OnArm lookups opAssignmentOf arms
-unfolding opAssignmentOf assignmentIn among
+unfolding opAssignmentOf assignmentIn amongTokens
 on-arm = arm-is lookups opAssignmentOf arms tt
 
 on-run : OnRun lookups opAssignmentOf arms runs
-unfolding opAssignmentOf assignmentIn among
+unfolding opAssignmentOf assignmentIn amongTokens
 on-run = run-is lookups opAssignmentOf arms runs tt
 
 pub convert-to-op-assignment-spec : {M : Type 1} → statement M

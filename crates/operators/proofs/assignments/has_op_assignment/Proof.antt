@@ -3,7 +3,7 @@ use Prim.Native.Nat.{zero-le}
 use mathlib.Core.Bool.{Bool, true, false}
 use mathlib.Core.List.{List, [], _∷_}
 use Rattle.token.specs.Tokens as Token
-use Rattle.token.specs.Tokens.{among}
+use Rattle.token.specs.Tokens.{amongTokens}
 use Rattle.operators.specs.Assignments.{hasOpAssignment}
 use Rattle.token.proofs.Arms.{Arm, arm, OnArm, arm-is, Run, run, OnRun, run-is, tests}
 use Rattle.operators.proofs.assignments.has_op_assignment.Statement.{statement}
@@ -22,11 +22,11 @@ runs =
     ∷ []
 
 on-arm : OnArm tests hasOpAssignment arms
-unfolding hasOpAssignment among
+unfolding hasOpAssignment amongTokens
 on-arm = arm-is tests hasOpAssignment arms tt
 
 on-run : OnRun tests hasOpAssignment arms runs
-unfolding hasOpAssignment among
+unfolding hasOpAssignment amongTokens
 on-run = run-is tests hasOpAssignment arms runs tt
 
 pub has-op-assignment-spec : {M : Type 1} → statement M

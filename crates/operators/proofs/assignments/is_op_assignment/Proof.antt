@@ -2,7 +2,7 @@
 use Prim.Native.Nat.{zero-le}
 use mathlib.Core.Bool.{Bool, true, false}
 use mathlib.Core.List.{List, [], _∷_}
-use Rattle.token.specs.Tokens.{among}
+use Rattle.token.specs.Tokens.{amongTokens}
 use Rattle.operators.specs.Assignments.{isOpAssignment}
 use Rattle.token.proofs.Arms.{Run, run, OnRun, run-is, tests}
 use Rattle.operators.proofs.assignments.is_op_assignment.Statement.{statement}
@@ -12,7 +12,7 @@ abbrev runs : List (Run Bool)
 runs = run 0 70 false ∷ run 70 81 true ∷ run 81 256 false ∷ []
 
 on-run : OnRun tests isOpAssignment [] runs
-unfolding isOpAssignment among
+unfolding isOpAssignment amongTokens
 on-run = run-is tests isOpAssignment [] runs tt
 
 pub is-op-assignment-spec : {M : Type 1} → statement M

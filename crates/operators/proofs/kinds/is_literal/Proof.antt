@@ -4,7 +4,7 @@ use mathlib.Core.Bool.{Bool, true, false}
 use borrow.Author.Tests.{le-ltb}
 use mathlib.Core.List.{List, [], _∷_}
 use Rattle.token.specs.Tokens as Token
-use Rattle.token.specs.Tokens.{among}
+use Rattle.token.specs.Tokens.{amongTokens}
 use Rattle.operators.specs.Kinds.{notLiteral, isLiteral}
 use Rattle.token.proofs.Arms.{Arm, arm, OnArm, arm-is, Run, run, OnRun, run-is, tests}
 use Rattle.operators.proofs.kinds.is_literal.Statement.{statement}
@@ -22,11 +22,11 @@ runs =
     ∷ []
 
 on-arm : OnArm tests isLiteral arms
-unfolding isLiteral notLiteral among
+unfolding isLiteral notLiteral amongTokens
 on-arm = arm-is tests isLiteral arms tt
 
 on-run : OnRun tests isLiteral arms runs
-unfolding isLiteral notLiteral among
+unfolding isLiteral notLiteral amongTokens
 on-run = run-is tests isLiteral arms runs tt
 
 returns : tie.Need-returns

@@ -2,7 +2,7 @@
 use Prim.Native.Nat.{zero-le}
 use mathlib.Core.Bool.{Bool, true, false}
 use mathlib.Core.List.{List, [], _∷_}
-use Rattle.token.specs.Tokens.{among}
+use Rattle.token.specs.Tokens.{amongTokens}
 use Rattle.operators.specs.Kinds.{standardKeywords, isStandardKeyword}
 use Rattle.token.proofs.Arms.{Run, run, OnRun, run-is, tests}
 use Rattle.operators.proofs.kinds.is_standard_keyword.Statement.{statement}
@@ -22,7 +22,7 @@ runs =
     ∷ []
 
 on-run : OnRun tests isStandardKeyword [] runs
-unfolding isStandardKeyword standardKeywords among
+unfolding isStandardKeyword standardKeywords amongTokens
 on-run = run-is tests isStandardKeyword [] runs tt
 
 pub is-standard-keyword-spec : {M : Type 1} → statement M

@@ -2,7 +2,7 @@
 use Prim.Native.Nat.{zero-le}
 use mathlib.Core.Bool.{Bool, true, false}
 use mathlib.Core.List.{List, [], _∷_}
-use Rattle.token.specs.Tokens.{among}
+use Rattle.token.specs.Tokens.{amongTokens}
 use Rattle.operators.specs.Kinds.{standardSymbols, isStandardSymbol}
 use Rattle.token.proofs.Arms.{Run, run, OnRun, run-is, tests}
 use Rattle.operators.proofs.kinds.is_standard_symbol.Statement.{statement}
@@ -24,7 +24,7 @@ runs =
     ∷ []
 
 on-run : OnRun tests isStandardSymbol [] runs
-unfolding isStandardSymbol standardSymbols among
+unfolding isStandardSymbol standardSymbols amongTokens
 on-run = run-is tests isStandardSymbol [] runs tt
 
 pub is-standard-symbol-spec : {M : Type 1} → statement M

@@ -2,7 +2,7 @@
 use Prim.Native.Nat.{ℕ, zero-le}
 use mathlib.Core.List.{List, [], _∷_}
 use Rattle.token.specs.Tokens as Token
-use Rattle.token.specs.Tokens.{among}
+use Rattle.token.specs.Tokens.{amongTokens}
 use Rattle.operators.specs.Precedence.{levels, precedenceIn, precedenceOf}
 use Rattle.token.proofs.Arms.{Arm, arm, OnArm, arm-is, Run, run, OnRun, run-is, numbers}
 use Rattle.operators.proofs.precedence.precedence.Statement.{statement}
@@ -29,11 +29,11 @@ runs =
     ∷ []
 
 on-arm : OnArm numbers precedenceOf arms
-unfolding precedenceOf precedenceIn levels among
+unfolding precedenceOf precedenceIn levels amongTokens
 on-arm = arm-is numbers precedenceOf arms tt
 
 on-run : OnRun numbers precedenceOf arms runs
-unfolding precedenceOf precedenceIn levels among
+unfolding precedenceOf precedenceIn levels amongTokens
 on-run = run-is numbers precedenceOf arms runs tt
 
 pub precedence-spec : {M : Type 1} → statement M

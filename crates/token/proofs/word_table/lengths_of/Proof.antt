@@ -4,10 +4,10 @@ use native.Mathlib.Omega.{arith}
 use mathlib.Core.Path.{sym, ap}
 use mathlib.Core.List.{List, [], _∷_}
 use Rattle.basis.specs.Words.{word}
-use Rattle.token.specs.Tokens.{among}
+use Rattle.token.specs.Tokens.{amongTokens}
 use Rattle.token.specs.Keywords.{keywords}
 use Rattle.token.proofs.Arms.{run, OnRun, run-is, numbers}
-use Rattle.token.specs.Spelt.{starts, lengthsIn, bitsOf, lengthsOf}
+use Rattle.token.specs.Spelt.{starts, lengthsIn, bitsUpTo, lengthsOf}
 use Rattle.token.proofs.word_table.Keyed.{keyed-by}
 use Rattle.token.proofs.word_table.lengths_of.Statement.{statement}
 use Rattle.token.proofs.word_table.lengths_of.Tie as tie
@@ -19,11 +19,11 @@ keys =
 
 -- no other number has one: one computed test over them
 other : OnRun numbers lengthsOf (keyed-by keys) (run 0 256 0 ∷ [])
-unfolding keywords word starts lengthsIn bitsOf lengthsOf among
+unfolding keywords word starts lengthsIn bitsUpTo lengthsOf amongTokens
 other = run-is numbers lengthsOf (keyed-by keys) (run 0 256 0 ∷ []) tt
 
 pub lengths-of-spec : {M : Type 1} → statement M
-unfolding keywords word starts lengthsIn bitsOf lengthsOf among
+unfolding keywords word starts lengthsIn bitsUpTo lengthsOf amongTokens
 lengths-of-spec =
     tie.close
     (tie.spec

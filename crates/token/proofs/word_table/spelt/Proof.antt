@@ -5,10 +5,10 @@ use mathlib.Core.Path.{sym, ap}
 use mathlib.Core.List.{List, [], _∷_}
 use Rattle.basis.specs.Words.{word}
 use Rattle.token.specs.Tokens as Token
-use Rattle.token.specs.Tokens.{among}
+use Rattle.token.specs.Tokens.{amongTokens}
 use Rattle.token.specs.Keywords.{keywords, textIn}
 use Rattle.token.proofs.Arms.{run, OnRun, run-is, numbers}
-use Rattle.token.specs.Spelt.{numberFrom, numberOf, speltOf}
+use Rattle.token.specs.Spelt.{numberFrom, wordNumber, speltOf}
 use Rattle.token.proofs.word_table.Keyed.{keyed-by}
 use Rattle.token.proofs.word_table.spelt.Statement.{statement}
 use Rattle.token.proofs.word_table.spelt.Tie as tie
@@ -20,11 +20,11 @@ keys =
 
 -- no other number has one: one computed test over them
 other : OnRun numbers speltOf (keyed-by keys) (run 0 256 0 ∷ [])
-unfolding keywords word textIn numberFrom numberOf speltOf among
+unfolding keywords word textIn numberFrom wordNumber speltOf amongTokens
 other = run-is numbers speltOf (keyed-by keys) (run 0 256 0 ∷ []) tt
 
 pub spelt-spec : {M : Type 1} → statement M
-unfolding keywords word textIn numberFrom numberOf speltOf
+unfolding keywords word textIn numberFrom wordNumber speltOf
 spelt-spec =
     tie.close
     (tie.spec
