@@ -1,3 +1,4 @@
+pub mod Computes
 pub mod Returns
 pub mod Refusals
 pub mod Limits

@@ -4,26 +4,26 @@ use native.Mathlib.Omega.{arith}
 use mathlib.Core.Bool.{Bool, true, false}
 use mathlib.Core.List.{List}
 use mathlib.Core.Path.{_≡_, refl, sym, _∙_}
-use lib.Dec.{eqb, ltb}
+use lib.Dec.{eqb}
 use lib.ListN.{length}
 use borrow.Author.Tests.{eq-eqb, ne-eqb, le-leb, lt-leb, eqb-true}
 use Rattle.basis.specs.Pick.{pick}
 use Rattle.basis.proofs.Cases.{pick-cases}
 use Rattle.position.specs.declared.Position.{Position}
 use Rattle.position.specs.Place.{onLine}
-use Rattle.utf8.specs.Table.{_‥_, within, chars, well, edge}
+use Rattle.utf8.specs.Table.{_‥_, within}
 use Rattle.chars.specs.Cursors.{cursor}
 use Rattle.door.specs.Door.{doorOf}
 use Rattle.chars.specs.declared.cursor.Cursor.{Cursor}
-use Rattle.door.proofs.Doors.{admitted}
-use Rattle.literal.specs.Trace.{Trace}
+use Rattle.door.proofs.Doors.{admitted, door-small}
 use Rattle.literal.specs.Cut.{cut, wrote}
 use Rattle.literal.specs.declared.Refusal.{Refusal}
 use Rattle.literal.specs.declared.Scanned.{Scanned}
 use Rattle.literal.specs.declared.Scanned.the-variants.{Refused}
 use Rattle.literal.proofs.Turns.{cut-fails}
-use Rattle.raw.specs.Raw.{readOf, refused}
-use Rattle.raw.specs.Entries.{traceOf, entersOf, resumesOf, parseTrace, parseOf, resumeTrace, resumeOf}
+use Rattle.literal.specs.Answers.{asGiven, full}
+use Rattle.raw.specs.Raw.{readOf, Newlines}
+use Rattle.raw.specs.Entries.{rawTrace, entersOf, resumesOf, parseTrace, parseOf, resumeTrace, resumeOf}
 
 -- a number asked first, and 3 where a test fails
 abbrev then3 : ℕ → Bool → ℕ
@@ -35,12 +35,6 @@ passed-both n b = pick-cases (λ (x : ℕ). x ≡ 0 → n ≡ 0) (eqb n 0) (pick
 still-small : (n : ℕ) (b : Bool) → n ≤ 3 → then3 n b ≤ 3
 still-small n b h =
     pick-cases (λ (x : ℕ). x ≤ 3) (eqb n 0) (pick b 0 3) n (λ q. pick-cases (λ (x : ℕ). x ≤ 3) b 0 3 (λ p. omega arith) (λ p. omega arith)) (λ q. h)
-
-door-small : (t : List ℕ) (at : ℕ) → doorOf t at ≤ 3
-unfolding doorOf
-door-small t at =
-    pick-cases (λ (x : ℕ). x ≤ 3) (ltb 16777216 (length t)) 2 _ (λ q. omega arith) (λ q.
-    pick-cases (λ (x : ℕ). x ≤ 3) (well t) _ 1 (λ p. pick-cases (λ (x : ℕ). x ≤ 3) (edge (chars t) at) 0 3 (λ r. omega arith) (λ r. omega arith)) (λ p. omega arith))
 
 module _ (t : List ℕ) (start : Cursor) where
   enters-within : entersOf t start ≡ 0 → start .at ≤ length t
@@ -93,44 +87,39 @@ module _ (t : List ℕ) (start : Cursor) where
     unfolding resumesOf
     resumes-small = still-small (entersOf t start) (within (1 ‥ 16777216) k) enters-small
 
--- a refused scan leaves what was lent
-pub untouched : {r : Scanned} {f : Refusal} → r ≡ Refused f → (t : Trace) (l : List ℕ) → l ≡ wrote r t l
-unfolding wrote
-untouched e t l = rw e
-
 -- a scan, where something was refused and where nothing was
-module _ (lines : Bool) (n : ℕ) (t : List ℕ) (start : Cursor) (k : ℕ) where
-  pub is-refused : (full : Refusal) (limit room : ℕ) → (n ≡ 0 → ⊥) → Refused (refused n start) ≡ cut full limit room 0 (traceOf lines n t start k)
-  unfolding traceOf
-  is-refused full limit room h = rw (ne-eqb n 0 h) (sym (cut-fails full limit room 0 (refused n start)))
+module _ (mode : Newlines) (n : ℕ) (t : List ℕ) (start : Cursor) (k : ℕ) where
+  pub is-refused : (full : Refusal) (limit room : ℕ) → (n ≡ 0 → ⊥) → Refused (asGiven n start) ≡ cut full limit room 0 (rawTrace mode n t start k)
+  unfolding rawTrace
+  is-refused full limit room h = rw (ne-eqb n 0 h) (sym (cut-fails full limit room 0 (asGiven n start)))
 
   module _ (z : n ≡ 0) where
-    pub reads-on : traceOf lines n t start k ≡ readOf lines t start k
-    unfolding traceOf
+    pub reads-on : rawTrace mode n t start k ≡ readOf mode t start k
+    unfolding rawTrace
     reads-on = rw (eq-eqb n 0 z)
 
-    pub answered : (full : Refusal) (limit room : ℕ) {r : Scanned} → r ≡ cut full limit room 0 (readOf lines t start k) → r ≡ cut full limit room 0 (traceOf lines n t start k)
+    pub answered : (full : Refusal) (limit room : ℕ) {r : Scanned} → r ≡ cut full limit room 0 (readOf mode t start k) → r ≡ cut full limit room 0 (rawTrace mode n t start k)
     answered full limit room h = rw reads-on h
 
-    pub left : (r : Scanned) (l : List ℕ) {l′ : List ℕ} → l′ ≡ wrote r (readOf lines t start k) l → l′ ≡ wrote r (traceOf lines n t start k) l
+    pub left : (r : Scanned) (l : List ℕ) {l′ : List ℕ} → l′ ≡ wrote r (readOf mode t start k) l → l′ ≡ wrote r (rawTrace mode n t start k) l
     left r l h = rw reads-on h
 
 -- the answers of the two entries, and what they leave of what was lent
-module _ (lines : Bool) (t : List ℕ) (at : ℕ) (p : Position) where
+module _ (mode : Newlines) (t : List ℕ) (at : ℕ) (p : Position) where
   module _ {n : ℕ} (e : n ≡ resumesOf t (cursor at p) 1) where
-    pub parse-answered : (limit room : ℕ) {r : Scanned} → r ≡ cut (refused 9 (cursor at p)) limit room 0 (traceOf lines n t (cursor at p) 0) → r ≡ parseOf lines t at p limit room
+    pub parse-answered : (limit room : ℕ) {r : Scanned} → r ≡ cut (full (cursor at p)) limit room 0 (rawTrace mode n t (cursor at p) 0) → r ≡ parseOf mode t at p limit room
     unfolding parseOf parseTrace
     parse-answered limit room h = rw (← one-hash t (cursor at p), ← e) h
 
-    pub parse-left : (r : Scanned) (l : List ℕ) {l′ : List ℕ} → l′ ≡ wrote r (traceOf lines n t (cursor at p) 0) l → l′ ≡ wrote r (parseTrace lines t at p) l
+    pub parse-left : (r : Scanned) (l : List ℕ) {l′ : List ℕ} → l′ ≡ wrote r (rawTrace mode n t (cursor at p) 0) l → l′ ≡ wrote r (parseTrace mode t at p) l
     unfolding parseTrace
     parse-left r l h = rw (← one-hash t (cursor at p), ← e) h
 
   module _ (k : ℕ) {n : ℕ} (e : n ≡ resumesOf t (cursor at p) k) where
-    pub resume-answered : (limit room : ℕ) {r : Scanned} → r ≡ cut (refused 9 (cursor at p)) limit room 0 (traceOf lines n t (cursor at p) k) → r ≡ resumeOf lines t at p k limit room
+    pub resume-answered : (limit room : ℕ) {r : Scanned} → r ≡ cut (full (cursor at p)) limit room 0 (rawTrace mode n t (cursor at p) k) → r ≡ resumeOf mode t at p k limit room
     unfolding resumeOf resumeTrace
     resume-answered limit room h = rw (← e) h
 
-    pub resume-left : (r : Scanned) (l : List ℕ) {l′ : List ℕ} → l′ ≡ wrote r (traceOf lines n t (cursor at p) k) l → l′ ≡ wrote r (resumeTrace lines t at p k) l
+    pub resume-left : (r : Scanned) (l : List ℕ) {l′ : List ℕ} → l′ ≡ wrote r (rawTrace mode n t (cursor at p) k) l → l′ ≡ wrote r (resumeTrace mode t at p k) l
     unfolding resumeTrace
     resume-left r l h = rw (← e) h

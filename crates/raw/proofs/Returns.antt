@@ -1,25 +1,23 @@
--- The table of returns in specs/Raw.antt, row by row; then limits and rooms, and the arguments that are refused. Assumes nothing.
+-- The table of returns in specs/Entries.antt, row by row; then limits and rooms, and the arguments that are refused. Assumes nothing.
 use Prim.Native.Nat.{ℕ, zero, suc}
 use mathlib.Core.List.{List, [], _∷_}
 use mathlib.Core.Path.{_≡_, refl}
 use Rattle.basis.specs.Words.{word}
 use Rattle.position.specs.declared.Position.{Position}
-use Rattle.position.specs.Place.{none, isNone, given, onLine, orElse, advanced, lined, up}
-use Rattle.utf8.specs.Table.{look, charsFrom, chars, charsAt, wellFrom, well, edge}
-use Rattle.utf8.specs.Encode.{encode}
+use Rattle.position.specs.Place.{none, given}
 use Rattle.chars.specs.Cursors.{cursor}
-use Rattle.door.specs.Door.{doorOf}
-use Rattle.chars.specs.Scan.{run, runAt}
 use Rattle.fault.specs.Faults.{part, fault, unterminatedString, unexpectedInput}
 use Rattle.fault.specs.declared.Fault.{Fault}
-use Rattle.literal.specs.Trace.{Trace, yields, bytes, final, good, bad, passes}
-use Rattle.literal.specs.Cut.{cut}
+use Rattle.literal.specs.Trace.{Trace, bytes, final, good, bad}
+use Rattle.literal.proofs.Computes.{the-places, the-characters, the-readings}
 use Rattle.literal.specs.declared.Terminator.{Terminator}
 use Rattle.literal.specs.declared.Scanned.{Scanned}
 use Rattle.literal.specs.declared.Scanned.the-variants.{Accepted, Refused}
-use Rattle.raw.specs.Opening.{quote, hash, nothing, refusal, cutOff, openingTurn, openedOf}
-use Rattle.raw.specs.Raw.{lf, asSource, hashesOf, ended, heldBack, placed, atEnd, turn, bodyOf, readOf}
-use Rattle.raw.specs.Entries.{traceOf, entersOf, resumesOf, parseTrace, resumeTrace, resumeOf}
+use Rattle.classes.specs.Marks.{quote, hash, lf}
+use Rattle.literal.specs.Answers.{nothing, refusal}
+use Rattle.raw.specs.Raw.{asSource, hashesOf, rawEnd}
+use Rattle.raw.specs.Entries.{parseTrace, resumeTrace, resumeOf}
+use Rattle.raw.proofs.Computes.{the-raw-rules, the-raw-entries}
 
 -- a scan from the start of a text, with the Rust's hash count, at a place; and at 1:1
 abbrev from : Position → ℕ → List ℕ → Trace
@@ -31,7 +29,7 @@ scans k t = from (given 1 1) k t
 
 -- it is accepted with a body, and ends so; or it is refused
 abbrev Gives : Trace → List ℕ → ℕ → Position → Position → Terminator → Type 0
-Gives t bs at p first r = (bytes t ≡ bs) × (final t ≡ good (ended (cursor at p) first r))
+Gives t bs at p first r = (bytes t ≡ bs) × (final t ≡ good (rawEnd (cursor at p) first r))
 
 abbrev Fails : Trace → Fault → ℕ → Position → Type 0
 Fails t f at p = final t ≡ bad (refusal f (cursor at p) nothing)
@@ -50,7 +48,7 @@ pub entered-returns :
     × Fails (scans 0 (hash ∷ 0xC3 ∷ 0xA9 ∷ [])) (unexpectedInput (given 1 1) (part 1 2)) 3 (given 1 2)
     × Fails (scans 0 []) (unterminatedString (given 1 1)) 0 (given 1 1)
     × Fails (scans 0 (word "#")) (unterminatedString (given 1 1)) 1 (given 1 2)
-unfolding word none isNone given onLine orElse advanced lined up look charsFrom chars charsAt wellFrom well edge encode doorOf run runAt yields bytes final cutOff openingTurn openedOf heldBack placed atEnd turn bodyOf readOf traceOf entersOf resumesOf parseTrace resumeTrace
+unfolding the-places the-characters the-readings the-raw-rules the-raw-entries
 entered-returns = (
   (refl, refl),
   (refl, refl),
@@ -77,7 +75,7 @@ pub resumed-returns :
     × Gives (scans 1 (0xC3 ∷ 0xA9 ∷ [])) (0xC3 ∷ 0xA9 ∷ []) 2 (given 1 2) (given 1 2) (hashesOf 1)
     × Gives (from (given 1 3) 1 (quote ∷ lf ∷ word "x\"#")) (quote ∷ lf ∷ word "x") 5 (given 1 8) (given 1 4) nothing
     × Gives (from (given 1 3) 1 (lf ∷ word "x\"#")) (lf ∷ word "x") 4 (given 2 3) (given 2 0) nothing
-unfolding word none isNone given onLine orElse advanced lined up look charsFrom chars charsAt wellFrom well edge encode doorOf run runAt yields bytes final cutOff openingTurn openedOf heldBack placed atEnd turn bodyOf readOf traceOf entersOf resumesOf parseTrace resumeTrace
+unfolding the-places the-characters the-readings the-raw-rules the-raw-entries
 resumed-returns = ((refl, refl), (refl, refl), (refl, refl), (refl, refl), (refl, refl), (refl, refl), (refl, refl), (refl, refl), (refl, refl))
 
 -- a limit and a room: the room is asked first, a quote that may still close is not yet bytes, and at the closing hash no limit is tested
@@ -87,11 +85,11 @@ within limit room t = resumeOf asSource t 0 (given 1 1) 1 limit room
 pub cut-returns :
     (within 1 1 (0xC3 ∷ 0xA9 ∷ []) ≡ Refused (refusal (fault 9 (given 1 1)) (cursor 0 (given 1 1)) nothing))
     × (within 1 2 (0xC3 ∷ 0xA9 ∷ []) ≡ Refused (refusal (fault 7 (given 1 1)) (cursor 2 (given 1 2)) (hashesOf 1)))
-    × (within 0 0 (word "\"") ≡ Accepted (ended (cursor 1 (given 1 2)) (given 1 2) (hashesOf 1)) 0)
+    × (within 0 0 (word "\"") ≡ Accepted (rawEnd (cursor 1 (given 1 2)) (given 1 2) (hashesOf 1)) 0)
     × (within 0 1 (word "\"a") ≡ Refused (refusal (fault 9 (given 1 1)) (cursor 0 (given 1 1)) nothing))
-    × (within 3 3 (word "abc\"#") ≡ Accepted (ended (cursor 5 (given 1 6)) (given 1 2) nothing) 3)
+    × (within 3 3 (word "abc\"#") ≡ Accepted (rawEnd (cursor 5 (given 1 6)) (given 1 2) nothing) 3)
     × (within 2 3 (word "abc\"#") ≡ Refused (refusal (fault 7 (given 1 1)) (cursor 3 (given 1 4)) (hashesOf 1)))
-unfolding word none isNone given onLine orElse advanced lined up look charsFrom chars charsAt wellFrom well edge encode doorOf run runAt yields bytes final cutOff openingTurn openedOf heldBack placed atEnd turn bodyOf readOf traceOf entersOf resumesOf parseTrace resumeTrace cut passes resumeOf
+unfolding the-places the-characters the-readings the-raw-rules the-raw-entries
 cut-returns = (refl, refl, refl, refl, refl, refl)
 
 -- the arguments that are refused: a text that is not UTF-8, an offset past the end and one inside a character, line 0, and the hash counts next to the range
@@ -103,5 +101,5 @@ pub refused-returns :
     × Fails (resumeTrace asSource [] 0 (given 1 1) 0) (fault 3 (given 1 1)) 0 (given 1 1)
     × Fails (resumeTrace asSource [] 0 (given 1 1) 16777217) (fault 3 (given 1 1)) 0 (given 1 1)
     × Gives (resumeTrace asSource [] 0 (given 1 1) 16777216) [] 0 (given 1 1) none (hashesOf 16777216)
-unfolding word none isNone given onLine orElse advanced lined up look charsFrom chars charsAt wellFrom well edge encode doorOf run runAt yields bytes final cutOff openingTurn openedOf heldBack placed atEnd turn bodyOf readOf traceOf entersOf resumesOf parseTrace resumeTrace
+unfolding the-places the-characters the-readings the-raw-rules the-raw-entries
 refused-returns = (refl, refl, refl, refl, refl, refl, (refl, refl))

@@ -28,9 +28,8 @@
 --
 -- Each row is proved in proofs/Returns.antt.
 use Prim.Native.Nat.{ℕ}
-use mathlib.Core.Bool.{Bool}
-use mathlib.Core.List.{List}
 use lib.Dec.{eqb}
+use Rattle.basis.specs.Types.{Offset, Text}
 use Rattle.basis.specs.Pick.{pick}
 use Rattle.position.specs.declared.Position.{Position}
 use Rattle.position.specs.Place.{onLine}
@@ -41,30 +40,31 @@ use Rattle.chars.specs.declared.cursor.Cursor.{Cursor}
 use Rattle.literal.specs.Trace.{Trace, fails}
 use Rattle.literal.specs.Cut.{cut}
 use Rattle.literal.specs.declared.Scanned.{Scanned}
-use Rattle.raw.specs.Raw.{readOf, refused}
+use Rattle.literal.specs.Answers.{asGiven, full}
+use Rattle.raw.specs.Raw.{readOf, Newlines}
 
 -- the reading, or the refusal that the arguments are given where its number is not 0
-unfoldable pub traceOf : Bool → ℕ → List ℕ → Cursor → ℕ → Trace
-traceOf lines number t start k = pick (eqb number 0) (readOf lines t start k) (fails (refused number start))
+unfoldable pub rawTrace : Newlines → ℕ → Text → Cursor → ℕ → Trace
+rawTrace mode number t start k = pick (eqb number 0) (readOf mode t start k) (fails (asGiven number start))
 
 -- what the arguments refuse: 2, 1, 3 at the door; 3 for a place on no line; 0 for nothing
-unfoldable pub entersOf : List ℕ → Cursor → ℕ
+unfoldable pub entersOf : Text → Cursor → ℕ
 entersOf t start = pick (eqb (doorOf t (start .at)) 0) (pick (onLine (start .place)) 0 3) (doorOf t (start .at))
 
 -- the same for a hash count given, which is 1 to 16,777,216
-unfoldable pub resumesOf : List ℕ → Cursor → ℕ → ℕ
+unfoldable pub resumesOf : Text → Cursor → ℕ → ℕ
 resumesOf t start k = pick (eqb (entersOf t start) 0) (pick (within (1 ‥ 16777216) k) 0 3) (entersOf t start)
 
 -- entered after the first hash: the reading, and what a limit and a room leave of it
-unfoldable pub parseTrace : Bool → List ℕ → ℕ → Position → Trace
-parseTrace lines t at p = traceOf lines (entersOf t (cursor at p)) t (cursor at p) 0
+unfoldable pub parseTrace : Newlines → Text → Offset → Position → Trace
+parseTrace mode t at p = rawTrace mode (entersOf t (cursor at p)) t (cursor at p) 0
 
-unfoldable pub parseOf : Bool → List ℕ → ℕ → Position → ℕ → ℕ → Scanned
-parseOf lines t at p limit room = cut (refused 9 (cursor at p)) limit room 0 (parseTrace lines t at p)
+unfoldable pub parseOf : Newlines → Text → Offset → Position → ℕ → ℕ → Scanned
+parseOf mode t at p limit room = cut (full (cursor at p)) limit room 0 (parseTrace mode t at p)
 
 -- resumed with a hash count: the same
-unfoldable pub resumeTrace : Bool → List ℕ → ℕ → Position → ℕ → Trace
-resumeTrace lines t at p k = traceOf lines (resumesOf t (cursor at p) k) t (cursor at p) k
+unfoldable pub resumeTrace : Newlines → Text → Offset → Position → ℕ → Trace
+resumeTrace mode t at p k = rawTrace mode (resumesOf t (cursor at p) k) t (cursor at p) k
 
-unfoldable pub resumeOf : Bool → List ℕ → ℕ → Position → ℕ → ℕ → ℕ → Scanned
-resumeOf lines t at p k limit room = cut (refused 9 (cursor at p)) limit room 0 (resumeTrace lines t at p k)
+unfoldable pub resumeOf : Newlines → Text → Offset → Position → ℕ → ℕ → ℕ → Scanned
+resumeOf mode t at p k limit room = cut (full (cursor at p)) limit room 0 (resumeTrace mode t at p k)

@@ -1,36 +1,21 @@
 -- The opening of a raw literal: document 01, "Raw literal", and the Rust's `parse_raw_string_literal` up to where the body begins.
 use Prim.Native.Nat.{ℕ, _+_}
-use Prim.Native.Char.{code}
 use mathlib.Core.List.{List, [], _∷_}
 use lib.Dec.{eqb}
+use Rattle.basis.specs.Types.{Offset, Text}
 use Rattle.basis.specs.Pick.{pick}
 use Rattle.position.specs.declared.Position.{Position}
 use Rattle.position.specs.Place.{none, advanced}
 use Rattle.utf8.specs.Table.{Ch}
+use Rattle.classes.specs.Marks.{quote, hash}
 use Rattle.chars.specs.Cursors.{cursor}
 use Rattle.chars.specs.Scan.{Turn, go, stop, Rule, runAt}
 use Rattle.chars.specs.declared.cursor.Cursor.{Cursor}
 use Rattle.fault.specs.Faults.{part, fault, unterminatedString, unexpectedInput}
-use Rattle.fault.specs.declared.Fault.{Fault}
-use Rattle.literal.specs.declared.Terminator.{Terminator}
+use Rattle.literal.specs.Answers.{nothing, refusal}
 use Rattle.literal.specs.declared.Refusal.{Refusal}
 use Rattle.raw.specs.declared.open.Opened.{Opened}
 use Rattle.raw.specs.declared.open.Opened.the-variants.{At, Refused}
-
--- the characters that a raw literal asks for
-abbrev pub quote : ℕ
-quote = code "\""
-
-abbrev pub hash : ℕ
-hash = code "#"
-
--- nothing is on record
-abbrev pub nothing : Terminator
-nothing = record { c = 0; times = 0 }
-
--- a fault, with the cursor where it was found and what is on record then
-abbrev pub refusal : Fault → Cursor → Terminator → Refusal
-refusal f c r = record { fault = f; cursor = c; on_record = r }
 
 -- the refusal that it tells; of an opened literal one by number 0, at no place
 unfoldable pub refusalOf : Opened → Refusal
@@ -46,11 +31,11 @@ abbrev pub counted : ℕ → Position → Counted
 counted k p = record { hashes = k; place = p }
 
 -- where the text ends before the quote: 4
-unfoldable pub cutOff : Position → ℕ → Counted → Opened
+unfoldable pub cutOff : Position → Offset → Counted → Opened
 cutOff start at s = Refused (refusal (unterminatedString start) (cursor at (s .place)) nothing)
 
 -- one character after the first hash: the quote that opens the body, another hash, or 5, whose offset is past the character and whose position is not
-unfoldable pub openingTurn : Position → ℕ → List Ch → Counted → Turn Counted (Unit {0}) Opened
+unfoldable pub openingTurn : Position → Offset → List Ch → Counted → Turn Counted (Unit {0}) Opened
 openingTurn start at [] s = stop (cutOff start at s)
 openingTurn start at (c ∷ cs) s =
     pick (eqb (c .code) quote) (stop (At (s .hashes) (cursor (at + c .width) (advanced (s .place)))))
@@ -62,5 +47,5 @@ abbrev pub openingRule : Position → Rule Counted (Unit {0}) Opened
 openingRule start = record { turn = openingTurn start; end = cutOff start; note = λ n r. r }
 
 -- what the opening leads to, by the Rust's hash count: 0 says that the literal is entered after its first hash, any other that it is resumed in its body
-unfoldable pub openedOf : List ℕ → Cursor → ℕ → Opened
+unfoldable pub openedOf : Text → Cursor → ℕ → Opened
 openedOf t start k = pick (eqb k 0) (runAt (openingRule (start .place)) t (start .at) (counted 1 (start .place))) (At k start)

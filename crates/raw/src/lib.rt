@@ -7,14 +7,12 @@ ghost use mathlib.Core.Path.{_≡_};
 ghost use Prim.Native.Nat.{_≤_};
 ghost use lib.ListN.{length};
 ghost use Rattle.literal.specs.Cut.{cut, wrote};
-ghost use Rattle.raw.specs.Raw.{asSource, refused};
-ghost use Rattle.raw.specs.Entries.{traceOf, resumesOf, parseTrace, parseOf, resumeTrace, resumeOf};
+ghost use Rattle.literal.specs.Answers.{full};
+ghost use Rattle.raw.specs.Raw.{asSource};
+ghost use Rattle.raw.specs.Entries.{rawTrace, resumesOf, parseTrace, parseOf, resumeTrace, resumeOf};
 use chars::cursor::Cursor;
 use fault::Fault;
-use fault::Part;
-use literal::Refusal;
 use literal::Scanned;
-use literal::Terminator;
 use position::Position;
 
 // What the arguments of a scan refuse, by number; 0 for nothing.
@@ -48,21 +46,11 @@ fn read(
     out: &mut [u8],
 ) -> Scanned
     requires { ⌜ (number ≡ 0 → start .at ≤ length (now text)) ⌝ }
-    ensures { λ r. ⌜ r ≡ cut (refused 9 start) limit (length (now (out .entry))) 0 (traceOf asSource number (now (text .entry)) start hashes) ⌝ }
-    ensures { λ r. ⌜ now (out .exit) ≡ wrote r (traceOf asSource number (now (text .entry)) start hashes) (now (out .entry)) ⌝ }
+    ensures { λ r. ⌜ r ≡ cut (full start) limit (length (now (out .entry))) 0 (rawTrace asSource number (now (text .entry)) start hashes) ⌝ }
+    ensures { λ r. ⌜ now (out .exit) ≡ wrote r (rawTrace asSource number (now (text .entry)) start hashes) (now (out .entry)) ⌝ }
 {
     if number != 0 {
-        let place = start.place;
-        let fault = Fault {
-            number,
-            place,
-            part: Part::NONE,
-        };
-        return Scanned::Refused(Refusal {
-            fault,
-            cursor: start,
-            on_record: Terminator::NONE,
-        });
+        return Scanned::as_given(number, start);
     }
     let scanned = scan::measure(text, start, hashes, limit, out.len());
     let Scanned::Accepted(_, len) = scanned else {

@@ -1,19 +1,18 @@
 // The opening of a raw string literal: the Rust's `parse_raw_string_literal` up to where the body begins.
 ghost use mathlib.Core.Path.{_≡_};
 ghost use Rattle.fault.specs.Faults.{faultIn};
-ghost use Rattle.raw.specs.Opening.{nothing, refusal, refusalOf, openedOf};
+ghost use Rattle.literal.specs.Answers.{nothing, refusal};
+ghost use Rattle.raw.specs.Opening.{refusalOf, openedOf};
 ghost use Rattle.raw.specs.declared.open.Opened.the-variants as Opened;
 use chars::cursor::Cursor;
 use chars::cursor::Taken;
+use classes::marks::HASH;
+use classes::marks::QUOTE;
 use fault::Fault;
 use fault::Part;
 use literal::Refusal;
 use literal::Terminator;
 use position::Position;
-
-const QUOTE: u32 = 0x22;
-
-const HASH: u32 = 0x23;
 
 // What the opening leads to: the body, which so many hashes close, at a cursor; or a refusal.
 pub enum Opened {
@@ -23,16 +22,12 @@ pub enum Opened {
 
 impl Opened {
     // The refusal; of an opened literal one by number 0, at no place. It is for a `let .. else`, which cannot open the other case.
-    pub fn refusal(self) -> Refusal
+    pub(crate) fn refusal(self) -> Refusal
         ensures { λ r. ⌜ r ≡ refusalOf self ⌝ }
     {
         match self {
             Opened::At(_, cursor) => Refusal {
-                fault: Fault {
-                    number: 0,
-                    place: Position::NONE,
-                    part: Part::NONE,
-                },
+                fault: Fault::NONE,
                 cursor,
                 on_record: Terminator::NONE,
             },
@@ -45,19 +40,14 @@ impl Opened {
 fn refuse(number: u8, place: Position, part: Part, cursor: Cursor) -> Opened
     ensures { λ r. ⌜ r ≡ Opened.Refused (refusal (faultIn number place part) cursor nothing) ⌝ }
 {
-    let fault = Fault {
-        number,
-        place,
-        part,
-    };
     Opened::Refused(Refusal {
-        fault,
+        fault: Fault::about(number, place, part),
         cursor,
         on_record: Terminator::NONE,
     })
 }
 
-// Inner: where the body of a literal begins that is resumed with a hash count, or that is entered after its first hash, where
+// Where the body of a literal begins that is resumed with a hash count, or that is entered after its first hash, where
 // `hashes` is 0: then the hashes after the first are counted, and the quote is taken. A 5 has its offset behind the character
 // that is no quote, and its position before it.
 pub(crate) fn open(text: &[u8], start: Cursor, hashes: usize) -> Opened

@@ -6,35 +6,30 @@ ghost use lib.ListN.{length};
 ghost use Rattle.utf8.specs.Table.{lookAt};
 ghost use Rattle.utf8.specs.declared.Look.the-variants.{Char};
 ghost use Rattle.chars.specs.Stretch.{Next};
-ghost use Rattle.fault.specs.Faults.{fault};
 ghost use Rattle.literal.specs.Cut.{cut};
 ghost use Rattle.literal.specs.declared.Scanned.the-variants as Scanned;
-ghost use Rattle.raw.specs.Opening.{quote, refusal};
-ghost use Rattle.raw.specs.Raw.{asSource, ended, refused, bodyOf, readOf};
-ghost use Rattle.raw.specs.Step.{heldOf, behindOf, Failing, Lost-at, Passes};
+ghost use Rattle.classes.specs.Marks.{quote};
+ghost use Rattle.literal.specs.Answers.{full};
+ghost use Rattle.raw.specs.Raw.{asSource, rawEnd, bodyOf, readOf};
+ghost use Rattle.raw.specs.Step.{heldBehind, cursorBehind, Failing, Lost-at, BodyPasses};
 use crate::open;
 use crate::open::Opened;
 use chars::cursor::Cursor;
 use chars::cursor::Taken;
+use classes::marks::HASH;
+use classes::marks::LF;
+use classes::marks::QUOTE;
 use fault::Fault;
-use fault::Part;
 use literal::End;
-use literal::Refusal;
 use literal::Scanned;
 use literal::Terminator;
 use position::Position;
-
-const QUOTE: u32 = 0x22;
-
-const HASH: u32 = 0x23;
-
-const LF: u32 = 0x0A;
 
 // How many bytes are held back behind a character, a quote and the hashes after it, while an attempt to close lasts: a quote
 // begins or restarts one, a hash goes on with it, and any other character ends it.
 fn holds(c: u32, held: usize) -> usize
     requires { ⌜ held < 0xFFFFFFFFFFFFFFFF ⌝ }
-    ensures { λ r. ⌜ r ≡ heldOf c held ⌝ }
+    ensures { λ r. ⌜ r ≡ heldBehind c held ⌝ }
 {
     if c == QUOTE {
         return 1;
@@ -50,7 +45,7 @@ fn holds(c: u32, held: usize) -> usize
 
 // The cursor behind a character that does not close. A line feed that ends an attempt to close starts no line.
 fn behind(c: u32, held: usize, next: Cursor) -> Cursor
-    ensures { λ r. ⌜ r ≡ behindOf asSource c held next ⌝ }
+    ensures { λ r. ⌜ r ≡ cursorBehind asSource c held next ⌝ }
 {
     if c == LF {
         if held == 0 {
@@ -63,25 +58,9 @@ fn behind(c: u32, held: usize, next: Cursor) -> Cursor
     next
 }
 
-// A fault of a literal that is about no part of it, with the cursor where it was found and what is on record then.
-fn refuse(number: u8, place: Position, cursor: Cursor, on_record: Terminator) -> Scanned
-    ensures { λ r. ⌜ r ≡ Scanned.Refused (refusal (fault number place) cursor on_record) ⌝ }
-{
-    let fault = Fault {
-        number,
-        place,
-        part: Part::NONE,
-    };
-    Scanned::Refused(Refusal {
-        fault,
-        cursor,
-        on_record,
-    })
-}
-
 // An accepted body of so many bytes.
 fn accept(cursor: Cursor, first: Position, on_record: Terminator, len: usize) -> Scanned
-    ensures { λ r. ⌜ r ≡ Scanned.Accepted (ended cursor first on_record) len ⌝ }
+    ensures { λ r. ⌜ r ≡ Scanned.Accepted (rawEnd cursor first on_record) len ⌝ }
 {
     let end = End {
         cursor,
@@ -102,7 +81,7 @@ struct Stand {
 // Outside an attempt to close, passes all that is neither a quote nor a line feed, as far as no limit and no room stops it.
 fn pass_plain(text: &[u8], limit: usize, room: usize, s: Stand) -> Stand
     requires { ⌜ s .n ≤ room ⌝ }
-    ensures { λ r. ⌜ Passes (now (text .entry)) limit room 0 s r ⌝ }
+    ensures { λ r. ⌜ BodyPasses (now (text .entry)) limit room 0 s r ⌝ }
 {
     let from = s.here.at;
     let place = s.here.place;
@@ -184,7 +163,7 @@ fn lost_at(text: &[u8], at: usize) -> Lost
 // Passes a quote that closes nothing: a line feed that ends its attempt to close starts no line.
 fn pass_quote(text: &[u8], limit: usize, room: usize, s: Stand) -> Stand
     requires { ⌜ (s .n ≤ room) × (lookAt (now text) (s .here .at) ≡ Char quote 1) ⌝ }
-    ensures { λ r. ⌜ Passes (now (text .entry)) limit room 0 s r ⌝ }
+    ensures { λ r. ⌜ BodyPasses (now (text .entry)) limit room 0 s r ⌝ }
 {
     let at = s.here.at;
     let place = s.here.place;
@@ -209,7 +188,7 @@ fn pass_quote(text: &[u8], limit: usize, room: usize, s: Stand) -> Stand
 // Passes a line feed, or a quote that closes nothing.
 fn pass_one(text: &[u8], limit: usize, room: usize, s: Stand) -> Stand
     requires { ⌜ s .n ≤ room ⌝ }
-    ensures { λ r. ⌜ Passes (now (text .entry)) limit room 0 s r ⌝ }
+    ensures { λ r. ⌜ BodyPasses (now (text .entry)) limit room 0 s r ⌝ }
 {
     let at = s.here.at;
     if text.len() <= at {
@@ -236,7 +215,7 @@ fn pass_one(text: &[u8], limit: usize, room: usize, s: Stand) -> Stand
 // Outside an attempt to close, passes what is kept, as long as there is any and no limit and no room stops it.
 fn ahead(text: &[u8], limit: usize, room: usize, held: usize, from: Stand) -> Stand
     requires { ⌜ from .n ≤ room ⌝ }
-    ensures { λ r. ⌜ Passes (now (text .entry)) limit room held from r ⌝ }
+    ensures { λ r. ⌜ BodyPasses (now (text .entry)) limit room held from r ⌝ }
 {
     if 0 < held {
         return from;
@@ -261,7 +240,7 @@ fn ahead(text: &[u8], limit: usize, room: usize, held: usize, from: Stand) -> St
 // for what is held back.
 fn body_of(text: &[u8], start: Cursor, from: Cursor, k: usize, limit: usize, room: usize) -> Scanned
     requires { ⌜ 1 ≤ k ⌝ }
-    ensures { λ r. ⌜ r ≡ cut (refused 9 start) limit room 0 (bodyOf asSource (now (text .entry)) (start .place) k from) ⌝ }
+    ensures { λ r. ⌜ r ≡ cut (full start) limit room 0 (bodyOf asSource (now (text .entry)) (start .place) k from) ⌝ }
 {
     let on_record = Terminator { c: HASH, times: k };
     let mut here = from;
@@ -283,18 +262,18 @@ fn body_of(text: &[u8], start: Cursor, from: Cursor, k: usize, limit: usize, roo
         first = first.or_else(here.place);
         n = next.at - from.at - held;
         if room < n {
-            return refuse(Fault::NO_LITERAL_ROOM, start.place, start, Terminator::NONE);
+            return Scanned::as_given(Fault::NO_LITERAL_ROOM, start);
         }
         if literal::is_over(limit, n) {
-            return refuse(Fault::STRING_TOO_LONG, start.place, here, on_record);
+            return Scanned::too_long(start.place, here, on_record);
         }
     }
 }
 
-// Inner: what the scan of a text from a cursor answers for a limit and a room. As in the Rust, `hashes` is 0 where the literal
+// What the scan of a text from a cursor answers for a limit and a room. As in the Rust, `hashes` is 0 where the literal
 // is entered after its first hash. It does not ask the arguments.
 pub fn measure(text: &[u8], start: Cursor, hashes: usize, limit: usize, room: usize) -> Scanned
-    ensures { λ r. ⌜ r ≡ cut (refused 9 start) limit room 0 (readOf asSource (now (text .entry)) start hashes) ⌝ }
+    ensures { λ r. ⌜ r ≡ cut (full start) limit room 0 (readOf asSource (now (text .entry)) start hashes) ⌝ }
 {
     let opened = open::open(text, start, hashes);
     let Opened::At(k, from) = opened else {

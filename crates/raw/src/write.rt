@@ -9,7 +9,7 @@ use crate::open;
 use crate::open::Opened;
 use chars::cursor::Cursor;
 
-// Inner: writes the body of a literal that was measured and accepted, `len` bytes long, to the front of what is lent.
+// Writes the body of a literal that was measured and accepted, `len` bytes long, to the front of what is lent.
 pub fn write(text: &[u8], start: Cursor, hashes: usize, len: usize, out: &mut [u8])
     requires { ⌜ (start .at ≤ length (now text)) × (len ≡ length (bytes (readOf asSource (now text) start hashes))) × (len ≤ length (now out)) ⌝ }
     ensures { λ _. ⌜ now (out .exit) ≡ sets (now (out .entry)) 0 (bytes (readOf asSource (now (text .entry)) start hashes)) ⌝ }

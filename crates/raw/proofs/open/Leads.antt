@@ -14,7 +14,8 @@ use Rattle.utf8.proofs.Laws.{chars-char, chars-end, by-chars}
 use Rattle.chars.specs.Scan.{Turn, onTurn, run, runAt}
 use Rattle.chars.specs.declared.cursor.Cursor.{Cursor}
 use Rattle.chars.proofs.Reaches.{Reached, there, past}
-use Rattle.raw.specs.Opening.{quote, hash, Counted, counted, cutOff, openingTurn, openingRule, openedOf}
+use Rattle.classes.specs.Marks.{quote, hash}
+use Rattle.raw.specs.Opening.{Counted, counted, cutOff, openingTurn, openingRule, openedOf}
 use Rattle.raw.specs.declared.open.Opened.{Opened}
 use Rattle.raw.specs.declared.open.Opened.the-variants.{At, Refused}
 

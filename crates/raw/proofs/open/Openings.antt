@@ -13,7 +13,8 @@ use Rattle.chars.specs.declared.cursor.Taken.the-variants as taken
 use Rattle.chars.proofs.Cursors.{Took, ate-took, ate-ended}
 use Rattle.chars.proofs.Scans.{move-on, move-over, at-end, one-on, is-over}
 use Rattle.fault.specs.Faults.{part, unterminatedString, unexpectedInput}
-use Rattle.raw.specs.Opening.{nothing, refusal, counted, cutOff, openingTurn, openingRule, openedOf}
+use Rattle.literal.specs.Answers.{nothing, refusal}
+use Rattle.raw.specs.Opening.{counted, cutOff, openingTurn, openingRule, openedOf}
 use Rattle.raw.specs.declared.open.Opened.{Opened}
 use Rattle.raw.specs.declared.open.Opened.the-variants.{At, Refused}
 

@@ -11,7 +11,8 @@ use Rattle.fault.proofs.Small.{Tells, fault-tells}
 use Rattle.chars.specs.Scan.{Turn}
 use Rattle.chars.specs.declared.cursor.Cursor.{Cursor}
 use Rattle.chars.proofs.Keeps.{Kept, scan-keeps}
-use Rattle.raw.specs.Opening.{quote, hash, Counted, counted, cutOff, openingTurn, openingRule, openedOf}
+use Rattle.classes.specs.Marks.{quote, hash}
+use Rattle.raw.specs.Opening.{Counted, counted, cutOff, openingTurn, openingRule, openedOf}
 use Rattle.raw.specs.declared.open.Opened.{Opened}
 use Rattle.raw.specs.declared.open.Opened.the-variants.{At, Refused}
 

@@ -1,13 +1,13 @@
 -- What the arguments refuse is refused; an accepted body is as long as was measured, and has room; a refused one is not written.
 use Prim.Native.Nat.{ℕ, _≤_}
-use mathlib.Core.Path.{_≡_, refl, sym, _∙_}
+use mathlib.Core.Path.{_≡_, sym, _∙_}
 use lib.ListN.{length}
 use borrow.Author.Needs.{needs}
 use Rattle.literal.specs.Trace.{bytes}
 use Rattle.literal.proofs.Limits.{accepted-whole}
-use Rattle.literal.proofs.Turns.{wrote-accepted}
+use Rattle.literal.proofs.Turns.{wrote-accepted, wrote-refused}
 use Rattle.raw.specs.Raw.{asSource, readOf}
-use Rattle.raw.proofs.Refusals.{untouched, is-refused, answered, left}
+use Rattle.raw.proofs.Refusals.{is-refused, answered, left}
 use Rattle.raw.proofs.read.Statement.{statement}
 use Rattle.raw.proofs.read.Tie as tie
 
@@ -28,7 +28,7 @@ module _ (k : tie.After-known-told) where
 returns-2 : tie.Need-returns-2
 returns-2 c =
     let measured = c .before .before in
-    (answered asSource _ _ _ _ (measured .before .if1 .left) _ _ _ (measured .measure .ensures), untouched (c .enum-told .given .1) _ _)
+    (answered asSource _ _ _ _ (measured .before .if1 .left) _ _ _ (measured .measure .ensures), wrote-refused (c .enum-told .given .1) _ _)
 
 returns-3 : tie.Need-returns-3
 returns-3 c =
@@ -43,7 +43,8 @@ pub read-spec : {M : Type 1} → statement M
 read-spec =
     tie.close
     (tie.spec
-    (λ c. (is-refused asSource _ _ _ _ _ _ _ (c .before .if1 .taken), untouched refl _ _))
+    (λ c κs. search needs)
+    (λ c. (c .as-given .ensures ∙ is-refused asSource _ _ _ _ _ _ _ (c .before .if1 .taken), wrote-refused (c .as-given .ensures) _ _))
     (λ c κs. search needs)
     (λ c. search needs)
     (λ c. search needs)

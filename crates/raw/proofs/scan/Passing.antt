@@ -26,8 +26,9 @@ use Rattle.literal.specs.declared.Refusal.{Refusal}
 use Rattle.literal.specs.declared.Scanned.{Scanned}
 use Rattle.literal.proofs.Limits.{fewer}
 use Rattle.literal.proofs.Within.{adds-within}
-use Rattle.raw.specs.Raw.{asSource, Body, body, heldBack, tooLong, placed, turn, rule}
-use Rattle.raw.specs.Step.{Adds, Failing, Lost-at, again, ended, Passes}
+use Rattle.literal.specs.Answers.{tooLong}
+use Rattle.raw.specs.Raw.{asSource, hashesOf, BodyState, bodyState, heldBack, placed, bodyTurn, bodyRule}
+use Rattle.raw.specs.Step.{Adds, Failing, Lost-at, again, ended, BodyPasses}
 use Rattle.raw.specs.declared.scan.Lost.{Lost}
 use Rattle.raw.specs.declared.scan.Stand.{Stand}
 use Rattle.raw.proofs.scan.Turns.{quote-adds, line-adds, failed-adds}
@@ -42,10 +43,10 @@ pub one-byte : (t : List ℕ) (at : ℕ) {c : ℕ} → at < length t → getD t 
 one-byte t at h e l = sym (look-ascii t at h 1 (rw e l) refl) ∙ ap (λ (x : ℕ). Char x 1) e
 
 -- nothing is passed; one thing behind the other
-pub passes-none : (t : List ℕ) (limit room held : ℕ) (s : Stand) → s .n ≤ room → Passes t limit room held s s
+pub passes-none : (t : List ℕ) (limit room held : ℕ) (s : Stand) → s .n ≤ room → BodyPasses t limit room held s s
 passes-none t limit room held s h = record { low = omega arith; counts = omega arith; fits = h; same = λ start k full. refl }
 
-pub passes-then : {t : List ℕ} {limit room held : ℕ} {s r u : Stand} → Passes t limit room held s r → Passes t limit room held r u → Passes t limit room held s u
+pub passes-then : {t : List ℕ} {limit room held : ℕ} {s r u : Stand} → BodyPasses t limit room held s r → BodyPasses t limit room held r u → BodyPasses t limit room held s u
 passes-then p q =
     record { low = omega (arith, p .low, q .low); counts = omega (arith, p .low, q .low, p .counts, q .counts); fits = q .fits; same = λ start k full. p .same start k full ∙ q .same start k full }
 
@@ -62,35 +63,35 @@ module _ (t : List ℕ) (limit room most : ℕ) (s : Stand) (g : s .n + most ≤
   from = s .here .at
 
   -- behind so many characters
-  abbrev after : ℕ → Body
-  after i = body 0 (advancedBy i (s .here .place)) (firstBy i (s .first) (s .here .place))
+  abbrev after : ℕ → BodyState
+  after i = bodyState 0 (advancedBy i (s .here .place)) (firstBy i (s .first) (s .here .place))
 
   module _ (start : Position) (k : ℕ) (full : Refusal) where
     abbrev view : ℕ → Trace → Scanned
     view b r = cut full limit room (s .n + (b - from)) r
 
-    one-passed : (i b c w : ℕ) → from ≤ b → b + w ≤ from + most → lookAt t b ≡ Char c w → Plain c → stretches.Plain (rule asSource start k) t after view i b w
-    unfolding turn heldBack placed yields
+    one-passed : (i b c w : ℕ) → from ≤ b → b + w ≤ from + most → lookAt t b ≡ Char c w → Plain c → stretches.Plain (bodyRule asSource start k) t after view i b w
+    unfolding bodyTurn heldBack placed yields
     one-passed i b c w l h e y =
         let n = is-other 0x22 0x0A 0x0A 0x0A 0x0A c y in
         let z : b + w - from ≡ b - from + w = omega arith in
         let p = advanced (advancedBy i (s .here .place)) in
-        stretches.plain-turn (rule asSource start k) t after view {n = added (encode c) ∷ tested (tooLong start k (cursor (b + w) p)) ∷ []} e
+        stretches.plain-turn (bodyRule asSource start k) t after view {n = added (encode c) ∷ tested (tooLong start (cursor (b + w) p) (hashesOf k)) ∷ []} e
         (rw (n .0, n .1, advanced-by-more i (s .here .place), ← first-by-more (s .first) (s .here .place) i))
         (λ r. rw z (adds-within full limit room (s .n) most g o (b - from) w (at-width t b e .0) (omega arith) (encode c) (size-width t b e) _ r))
 
     all-passed : {i b : ℕ} → Stretch t Plain from i b → b ≤ from + most
-        → cut full limit room (s .n) (runAt (rule asSource start k) t from (body 0 (s .here .place) (s .first)))
-        ≡ cut full limit room (s .n + (b - from)) (runAt (rule asSource start k) t b (after i))
+        → cut full limit room (s .n) (runAt (bodyRule asSource start k) t from (bodyState 0 (s .here .place) (s .first)))
+        ≡ cut full limit room (s .n + (b - from)) (runAt (bodyRule asSource start k) t b (after i))
     all-passed {i} {b} p l =
         let z : s .n ≡ s .n + (from - from) = omega arith in
-        ap (λ (m : ℕ). cut full limit room m (runAt (rule asSource start k) t from (body 0 (s .here .place) (s .first)))) z
-        ∙ ap (λ (x : Body). view from (runAt (rule asSource start k) t from x)) (rw (advanced-by-none (s .here .place), first-by-none (s .first) (s .here .place)))
-        ∙ stretched (rule asSource start k) t after view Plain from (from + most) one-passed p l
+        ap (λ (m : ℕ). cut full limit room m (runAt (bodyRule asSource start k) t from (bodyState 0 (s .here .place) (s .first)))) z
+        ∙ ap (λ (x : BodyState). view from (runAt (bodyRule asSource start k) t from x)) (rw (advanced-by-none (s .here .place), first-by-none (s .first) (s .here .place)))
+        ∙ stretched (bodyRule asSource start k) t after view Plain from (from + most) one-passed p l
 
   pub passes-some : {i b m : ℕ} {p q : Position} → Stretch t Plain from i b → b ≤ from + most → (i ≡ 0 → ⊥)
       → p ≡ advancedBy i (s .here .place) → q ≡ orElse (s .first) (advanced (s .here .place)) → m ≡ s .n + (b - from)
-      → Passes t limit room 0 s (record { here = cursor b p; first = q; n = m })
+      → BodyPasses t limit room 0 s (record { here = cursor b p; first = q; n = m })
   passes-some {i} {b} x l some e f c =
       let h = stretch-low x in
       record {
@@ -101,15 +102,15 @@ module _ (t : List ℕ) (limit room most : ℕ) (s : Stand) (g : s .n + most ≤
       }
 
   -- a turn in the state where it stands, behind so many bytes
-  abbrev before : Body
-  before = body 0 (s .here .place) (s .first)
+  abbrev before : BodyState
+  before = bodyState 0 (s .here .place) (s .first)
 
   abbrev within : (m : ℕ) → m ≤ s .n + most → 0 < most → passes limit m ≡ false
   within m l some = fewer limit m (s .n + most) l (o some)
 
   -- a line feed
   pub passes-line : lookAt t from ≡ Char 0x0A 1 → 0 < most → {m : ℕ} {p q : Position} → p ≡ lined (advanced (s .here .place)) → q ≡ orElse (s .first) p → m ≡ s .n + 1
-      → Passes t limit room 0 s (record { here = cursor (from + 1) p; first = q; n = m })
+      → BodyPasses t limit room 0 s (record { here = cursor (from + 1) p; first = q; n = m })
   passes-line e some {m} x y z =
       record {
         low = omega arith;
@@ -121,18 +122,18 @@ module _ (t : List ℕ) (limit room most : ℕ) (s : Stand) (g : s .n + most ≤
 
   -- a quote, and a character of w bytes that ends the attempt
   module _ (one : lookAt t from ≡ Char 0x22 1) {c w : ℕ} (two : lookAt t (from + 1) ≡ Char c w) (f : Failing c) (l : w < most) where
-    abbrev attempt : Body
-    attempt = body 1 (advanced (s .here .place)) (orElse (s .first) (advanced (s .here .place)))
+    abbrev attempt : BodyState
+    attempt = bodyState 1 (advanced (s .here .place)) (orElse (s .first) (advanced (s .here .place)))
 
     pub passes-quote : {m : ℕ} {p q : Position} → p ≡ advancedBy 2 (s .here .place) → q ≡ orElse (s .first) (advanced (s .here .place)) → m ≡ s .n + 1 + w
-        → Passes t limit room 0 s (record { here = cursor (from + 1 + w) p; first = q; n = m })
+        → BodyPasses t limit room 0 s (record { here = cursor (from + 1 + w) p; first = q; n = m })
     passes-quote {m} x y z =
         record {
           low = omega arith;
           counts = omega (arith, z);
           fits = omega (arith, z, g, l);
           same = λ start k full.
-              let kept : Adds asSource t k (from + 1) attempt (1 + w) (from + 1 + w) (body 0 (advanced (advanced (s .here .place))) (orElse (attempt .first) (advanced (advanced (s .here .place))))) =
+              let kept : Adds asSource t k (from + 1) attempt (1 + w) (from + 1 + w) (bodyState 0 (advanced (advanced (s .here .place))) (orElse (attempt .first) (advanced (advanced (s .here .place))))) =
               failed-adds t k (from + 1) attempt (ate t (cursor (from + 1) (advanced (s .here .place))) two) (f .0) (omega arith) (f .1) (omega arith) in
               rw (y, x, two-columns (s .here .place), ← first-stays (s .first) (s .here .place) (advanced (advanced (s .here .place))))
               (goes-on asSource start t k from before full limit room (s .n) (quote-adds asSource t k from before (ate t (s .here) one) refl) (omega (arith, g)) (omega arith) (omega (arith, g)) (within (s .n) (omega arith) (omega (arith, l)))
@@ -141,14 +142,14 @@ module _ (t : List ℕ) (limit room most : ℕ) (s : Stand) (g : s .n + most ≤
 
   -- a quote before another: the attempt that it began is begun anew
   module _ (one : lookAt t from ≡ Char 0x22 1) (two : lookAt t (from + 1) ≡ Char 0x22 1) (l : 0 < most) where
-    abbrev begun : Body
-    begun = body 1 (advanced (s .here .place)) (orElse (s .first) (advanced (s .here .place)))
+    abbrev begun : BodyState
+    begun = bodyState 1 (advanced (s .here .place)) (orElse (s .first) (advanced (s .here .place)))
 
-    abbrev behind : Body
-    behind = body 0 (advanced (s .here .place)) (orElse (s .first) (advanced (s .here .place)))
+    abbrev behind : BodyState
+    behind = bodyState 0 (advanced (s .here .place)) (orElse (s .first) (advanced (s .here .place)))
 
     pub passes-again : {m : ℕ} {p q : Position} → p ≡ advancedBy 1 (s .here .place) → q ≡ orElse (s .first) (advanced (s .here .place)) → m ≡ s .n + 1
-        → Passes t limit room 0 s (record { here = cursor (from + 1) p; first = q; n = m })
+        → BodyPasses t limit room 0 s (record { here = cursor (from + 1) p; first = q; n = m })
     passes-again {m} x y z =
         record {
           low = omega arith;
@@ -165,7 +166,7 @@ module _ (t : List ℕ) (limit room most : ℕ) (s : Stand) (g : s .n + most ≤
   -- a quote that closes nothing, by what stands behind it
   pub passes-lost : lookAt t from ≡ Char 0x22 1 → {x : Lost} → Lost-at t (from + 1) x → x .width ≤ most
       → {m : ℕ} {p q : Position} → p ≡ advancedBy (x .columns) (s .here .place) → q ≡ orElse (s .first) (advanced (s .here .place)) → m ≡ s .n + x .width
-      → Passes t limit room 0 s (record { here = cursor (from + x .width) p; first = q; n = m })
+      → BodyPasses t limit room 0 s (record { here = cursor (from + x .width) p; first = q; n = m })
   passes-lost one (again two) l e f z = passes-again one two (omega (arith, l)) e f z
   passes-lost one (ended {w} two) l {m} e f z =
       let y : from + 1 + w ≡ from + (w + 1) = omega arith in

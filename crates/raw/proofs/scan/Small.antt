@@ -1,10 +1,9 @@
 -- What the reading of a raw literal tells is small where its start is. Assumes nothing.
 use Prim.Native.Nat.{ℕ}
-use mathlib.Core.Bool.{Bool}
 use mathlib.Core.List.{List}
 use lib.Dec.{eqb, ltb}
 use lib.ListN.{length}
-use Rattle.basis.specs.Pick.{both, either}
+use Rattle.basis.specs.Pick.{both}
 use Rattle.basis.proofs.Cases.{pick-cases}
 use Rattle.position.specs.declared.Position.{Position}
 use Rattle.position.specs.Place.{none}
@@ -14,35 +13,36 @@ use Rattle.chars.specs.declared.cursor.Cursor.{Cursor}
 use Rattle.chars.proofs.Keeps.{Kept, scan-keeps}
 use Rattle.literal.specs.Trace.{Trace, Yield}
 use Rattle.literal.proofs.Small.{Traced, yields-traced}
-use Rattle.raw.specs.Opening.{quote, hash, openedOf}
+use Rattle.classes.specs.Marks.{quote, hash, lf}
+use Rattle.raw.specs.Opening.{openedOf}
 use Rattle.raw.specs.declared.open.Opened.{Opened}
 use Rattle.raw.specs.declared.open.Opened.the-variants.{At, Refused}
 use Rattle.raw.proofs.open.Small.{Opened-small, opened-small}
-use Rattle.raw.specs.Raw.{lf, Body, body, placed, atEnd, turn, rule, bodyOf, leftOf, readOf}
+use Rattle.raw.specs.Raw.{BodyState, bodyState, placed, atEnd, bodyTurn, bodyRule, bodyOf, behindOpening, readOf, Newlines, startsLine}
 
-module _ (lines : Bool) (t : List ℕ) (start : Position) (k : ℕ) where
-  abbrev Turned : Turn Body (List Yield) Trace → Type 0
-  Turned = Kept (rule lines start k) t (λ s. Small (s .place)) (Traced (length t))
+module _ (mode : Newlines) (t : List ℕ) (start : Position) (k : ℕ) where
+  abbrev Turned : Turn BodyState (List Yield) Trace → Type 0
+  Turned = Kept (bodyRule mode start k) t (λ s. Small (s .place)) (Traced (length t))
 
-  placed-small : (held c : ℕ) (p : Position) → Small p → Small (placed lines held c p)
+  placed-small : (held c : ℕ) (p : Position) → Small p → Small (placed mode held c p)
   unfolding placed
-  placed-small held c p h = pick-cases Small (both (eqb c lf) (either lines (eqb held 0))) _ _ (λ y. lined-small h) (λ n. h)
+  placed-small held c p h = pick-cases Small (both (eqb c lf) (startsLine mode held)) _ _ (λ y. lined-small h) (λ n. h)
 
-  body-traced : (from : Cursor) → Small (from .place) → Traced (length t) (bodyOf lines t start k from)
-  unfolding bodyOf turn atEnd
+  body-traced : (from : Cursor) → Small (from .place) → Traced (length t) (bodyOf mode t start k from)
+  unfolding bodyOf bodyTurn atEnd
   body-traced from h =
-      scan-keeps (rule lines start k) t (λ s. Small (s .place)) (Traced (length t)) (λ at s i. i)
+      scan-keeps (bodyRule mode start k) t (λ s. Small (s .place)) (Traced (length t)) (λ at s i. i)
       (λ at c w s e i.
       pick-cases Turned (eqb c quote) _ _ (λ y. advanced-small i)
       (λ n. pick-cases Turned (both (ltb 0 (s .held)) (eqb c hash)) _ _
       (λ y. pick-cases Turned (eqb (s .held) k) _ _ (λ z. advanced-small i) (λ z. advanced-small i))
       (λ m. placed-small (s .held) c _ (advanced-small i))))
-      (λ ys r i. yields-traced (length t) ys r i) (from .at) (body 0 (from .place) none) h
+      (λ ys r i. yields-traced (length t) ys r i) (from .at) (bodyState 0 (from .place) none) h
 
-pub read-traced : (lines : Bool) (t : List ℕ) (start : Cursor) (k : ℕ) → Small (start .place) → Traced (length t) (readOf lines t start k)
+pub read-traced : (mode : Newlines) (t : List ℕ) (start : Cursor) (k : ℕ) → Small (start .place) → Traced (length t) (readOf mode t start k)
 unfolding readOf
-read-traced lines t start k h = by (openedOf t start k) (opened-small t start k h)
+read-traced mode t start k h = by (openedOf t start k) (opened-small t start k h)
   where
-    by : (x : Opened) → Opened-small t x → Traced (length t) (leftOf lines t (start .place) x)
-    by (At n from) i = body-traced lines t (start .place) n from i
+    by : (x : Opened) → Opened-small t x → Traced (length t) (behindOpening mode t (start .place) x)
+    by (At n from) i = body-traced mode t (start .place) n from i
     by (Refused f) i = i

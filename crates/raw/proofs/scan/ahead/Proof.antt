@@ -1,16 +1,14 @@
 -- One thing passed behind the other: proofs/Passing.antt.
-use Prim.Native.Nat.{ℕ, _-_, _<_}
+use Prim.Native.Nat.{_-_}
 use native.Mathlib.Omega.{arith}
 use mathlib.Core.Path.{_≡_}
-use borrow.Author.Needs.{needs}
-use Rattle.raw.specs.Step.{Passes}
-use Rattle.raw.specs.declared.scan.Stand.{Stand}
+use Rattle.raw.specs.Step.{BodyPasses}
 use Rattle.raw.proofs.scan.Passing.{passes-none, passes-then}
 use Rattle.raw.proofs.scan.ahead.Statement.{statement}
 use Rattle.raw.proofs.scan.ahead.Tie as tie
 
 abbrev Inv-loop : tie.InvT-loop
-Inv-loop text limit room held s₀ s = Passes text limit room 0 s₀ s
+Inv-loop text limit room held s₀ s = BodyPasses text limit room 0 s₀ s
 
 abbrev μ-loop : tie.MeasureT-loop
 μ-loop text limit room held s₀ s = room - s .n
@@ -23,7 +21,7 @@ module _ (k : tie.After-pass-one Inv-loop μ-loop) where
   abbrev begin : tie.Start Inv-loop μ-loop
   begin = top .before .before .before
 
-  one : Passes (begin .args .text .now) (begin .args .limit) (begin .args .room) 0 (begin .args .from) (k .pass-one .result)
+  one : BodyPasses (begin .args .text .now) (begin .args .limit) (begin .args .room) 0 (begin .args .from) (k .pass-one .result)
   one = passes-then (top .loop .inv) (k .pass-one .ensures)
 
   outside : begin .args .held ≡ 0
@@ -34,7 +32,7 @@ module _ (k : tie.After-pass-plain Inv-loop μ-loop) where
   abbrev kept : tie.After-pass-one Inv-loop μ-loop
   kept = k .before .before .before .before
 
-  further : Passes (begin kept .args .text .now) (begin kept .args .limit) (begin kept .args .room) 0 (begin kept .args .from) (k .pass-plain .result)
+  further : BodyPasses (begin kept .args .text .now) (begin kept .args .limit) (begin kept .args .room) 0 (begin kept .args .from) (k .pass-plain .result)
   further = passes-then (one kept) (k .pass-plain .ensures)
 
 returns-2 : tie.Need-returns-2 Inv-loop μ-loop

@@ -63,7 +63,7 @@ returns-3 : tie.Need-returns-3 Inv-loop μ-loop
 returns-3 c =
     let tested = c .before in
     let k = tested .before .before .before in
-    c .refuse .ensures
+    c .as-given .ensures
     ∙ is-full _ _ _ _ _ _ (stands (eaten (taken k))) (ate (taken k)) (start (eaten (taken k)) .pre) (held k .holds .ensures) (held k .before .behind .ensures) (k .or-else .ensures) (k .before .if1 .left) refl (tested .if2 .taken)
 
 returns-4 : tie.Need-returns-4 Inv-loop μ-loop
@@ -71,7 +71,7 @@ returns-4 c =
     let tested = c .before .before in
     let fits = tested .before in
     let k = fits .before .before .before in
-    c .refuse2 .ensures
+    c .too-long .ensures
     ∙ is-too-long _ _ _ _ _ _ (stands (eaten (taken k))) (ate (taken k)) (start (eaten (taken k)) .pre) (held k .holds .ensures) (held k .before .behind .ensures) (k .or-else .ensures) (k .before .if1 .left) refl (fits .if2 .left) (sym (tested .is-over .ensures) ∙ c .before .if3 .taken)
 
 loop-less : tie.Need-loop-less Inv-loop μ-loop

@@ -1,5 +1,4 @@
 -- A quote behind it, or a character that ends the attempt.
-use Prim.Native.Nat.{ℕ}
 use native.Mathlib.Omega.{arith}
 use mathlib.Core.Path.{refl}
 use lib.ListN.{length}

@@ -31,9 +31,9 @@ pass-one-spec =
     (λ c. omega (arith, c .shared-slice-known2 .given (c .before .before .before .args .s .here .at)))
     pass-quote-requires
     (λ c. c .pass-quote .ensures)
-    (λ c. passes-none _ _ _ _ _ (c .before .before .before .before .before .pre))
-    (λ c κs. c .before .before .before .before .before .pre)
-    (λ c. passes-none _ _ _ _ _ (c .before .before .before .before .before .before .before .pre))
+    (λ c. let begin = c .before .before .before .before .before in passes-none _ _ _ _ _ (begin .pre))
+    (λ c κs. let begin = c .before .before .before .before .before in begin .pre)
+    (λ c. let begin = c .before .before .before .before .before .before .before in passes-none _ _ _ _ _ (begin .pre))
     (λ c κs. search needs)
     (λ c κs. search needs)
     (λ c. let inside = c .before .before .before .before .before .before .before in omega (arith, inside .if1 .left))

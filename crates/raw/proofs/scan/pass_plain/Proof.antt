@@ -40,6 +40,6 @@ pass-plain-spec =
     (λ c κs. search needs)
     (λ c κs. search needs)
     (λ c κs. search needs)
-    (λ c. omega (arith, low (c .before .before .before .before .before .before)))
+    (λ c. let k = c .before .before .before .before .before .before in omega (arith, low k))
     (λ c. let k = c .before .before .before .before .before .before .before in omega (arith, k .pass .ensures .1, k .before .most .ensures .0, low k))
     returns-2)

@@ -35,8 +35,8 @@ pass-quote-spec =
     (tie.spec
     (λ c. let b = c .before .before in omega (arith, at-width (b .args .text .now) (b .args .s .here .at) (b .pre .1) .1))
     (λ c κs. search needs)
-    (λ c. passes-none _ _ _ _ _ (c .before .before .before .before .pre .0))
-    (λ c κs. c .before .before .before .before .pre .0)
+    (λ c. let entry = c .before .before .before .before in passes-none _ _ _ _ _ (entry .pre .0))
+    (λ c κs. let entry = c .before .before .before .before in entry .pre .0)
     (λ c. passes-none _ _ _ _ _ (begin (c .before) .pre .0))
     (λ c. omega (arith, lost-within (lost (c .before)), begin (c .before) .good))
     (λ c κs. search needs)
