@@ -14,20 +14,20 @@ use Rattle.chars.specs.declared.cursor.Cursor.{Cursor}
 use Rattle.chars.proofs.Holds.{scan-holds}
 use Rattle.literal.specs.Trace.{Trace, checks, Yield, added, tested, bytes, final}
 use Rattle.literal.proofs.Lands.{Lands-from, size, lands-behind}
-use Rattle.string_turn.specs.Endings.{once}
-use Rattle.string_turn.specs.Take.{endOf, takeOf}
-use Rattle.string_turn.specs.declared.take.State.{State}
+use Rattle.literal.specs.Answers.{once, tooLong}
+use Rattle.string_turn.specs.Take.{inputEnd, takeOf}
+use Rattle.string_turn.specs.declared.take.Scanning.{Scanning}
 use Rattle.string_turn.specs.declared.take.Last.{Last}
 use Rattle.string_turn.specs.declared.take.Last.the-variants.{Good, Bad}
 use Rattle.string_turn.specs.declared.take.Got.{Got}
 use Rattle.string_turn.specs.declared.take.Got.the-variants as got
 use Rattle.string_turn.proofs.take.Lands.{Last-lands, Got-lands, end-lands, take-lands}
 use Rattle.string_turn.specs.Act.{actOf}
-use Rattle.string_turn.specs.declared.act.Step.{Step}
-use Rattle.string_turn.specs.declared.act.Step.the-variants as step
+use Rattle.string_turn.specs.declared.act.Acted.{Acted}
+use Rattle.string_turn.specs.declared.act.Acted.the-variants as step
 use Rattle.string_turn.proofs.act.Lands.{Step-lands, act-lands}
-use Rattle.string.specs.Ends.{tooLongAt, lastOf}
-use Rattle.string.specs.Reading.{onGot, onStep, turnOf, rule, begun, readingOf}
+use Rattle.string.specs.Ends.{lastOf}
+use Rattle.string.specs.Reading.{onGot, onActed, stringTurn, stringRule, stringBegun, stringReading}
 
 -- a turn adds four bytes at most
 few : (d : ℕ) → length (encoded d) ≤ 4
@@ -44,34 +44,34 @@ module _ (t : List ℕ) where
   last-final at start (Bad f) h = tt
 
   module _ (white : ℕ → Bool) (q : ℕ) (start : Position) where
-    abbrev Turned : ℕ → Turn State (List Yield) Trace → Type 0
+    abbrev Turned : ℕ → Turn Scanning (List Yield) Trace → Type 0
     Turned at (go ys k r) = size ys ≤ 4
     Turned at (stop r) = Lands-from t at 0 r
 
-    turned : (at : ℕ) (cs : List Ch) (s : State) → Turned at (turnOf white t q start at cs s)
-    unfolding turnOf bytes final
+    turned : (at : ℕ) (cs : List Ch) (s : Scanning) → Turned at (stringTurn white t q start at cs s)
+    unfolding stringTurn bytes final
     turned at cs s = taken (takeOf t q start at s) (take-lands t q start at s)
       where
-        acted : (here : Cursor) (x : Step) → Step-lands t at x
-            → Turned at (onStep x (λ d next r. go (tested (tooLongAt start here (once q)) ∷ added (encoded d) ∷ []) (length cs - suc (length (charsAt t next))) r)
-            (λ last. stop (checks (tooLongAt start here (once q)) (lastOf start last))))
+        acted : (here : Cursor) (x : Acted) → Step-lands t at x
+            → Turned at (onActed x (λ d next r. go (tested (tooLong start here (once q)) ∷ added (encoded d) ∷ []) (length cs - suc (length (charsAt t next))) r)
+            (λ last. stop (checks (tooLong start here (once q)) (lastOf start last))))
         acted here (step.Go d next r) p = omega (arith, few d)
         acted here (step.Over last) p = last-final at start last p
 
         taken : (x : Got) → Got-lands t at x
             → Turned at (onGot x
-            (λ c here. onStep (actOf white t q start c here s)
-            (λ d next r. go (tested (tooLongAt start here (once q)) ∷ added (encoded d) ∷ []) (length cs - suc (length (charsAt t next))) r)
-            (λ last. stop (checks (tooLongAt start here (once q)) (lastOf start last))))
+            (λ c here. onActed (actOf white t q start c here s)
+            (λ d next r. go (tested (tooLong start here (once q)) ∷ added (encoded d) ∷ []) (length cs - suc (length (charsAt t next))) r)
+            (λ last. stop (checks (tooLong start here (once q)) (lastOf start last))))
             (λ last. stop (lastOf start last)))
         taken (got.Char c here) (f, l) = acted here (actOf white t q start c here s) (act-lands white t q start at c here s f l)
         taken (got.Over last) p = last-final at start last p
 
-    pub string-lands : (from : Cursor) → from .place ≡ start → Lands-from t (from .at) 0 (readingOf white t q from)
-    unfolding readingOf rule
+    pub string-lands : (from : Cursor) → from .place ≡ start → Lands-from t (from .at) 0 (stringReading white t q from)
+    unfolding stringReading stringRule
     string-lands from e =
-        rw e (scan-holds (rule white t q start) t (λ at s r. Lands-from t at 0 r)
-        (λ at s. last-final at start (endOf q start at s) (end-lands t q start at s))
+        rw e (scan-holds (stringRule white t q start) t (λ at s r. Lands-from t at 0 r)
+        (λ at s. last-final at start (inputEnd q start at s) (end-lands t q start at s))
         (λ at c w s r e x. rw x at (turned at (ch c w ∷ charsAt t (at + w)) s))
         (λ at c w s ys k r e x to y h l. lands-behind t at to 0 0 ys y h l (let f = rw x at (turned at (ch c w ∷ charsAt t (at + w)) s) in omega (arith, f)))
-        (from .at) (begun start))
+        (from .at) (stringBegun start))

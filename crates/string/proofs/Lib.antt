@@ -1,3 +1,4 @@
+pub mod Computes
 pub mod Readings
 pub mod Passing
 pub mod Limits

@@ -11,19 +11,20 @@ use Rattle.utf8.specs.declared.Look.the-variants.{Char}
 use Rattle.chars.specs.Cursors.{cursor}
 use Rattle.chars.specs.declared.cursor.Cursor.{Cursor}
 use Rattle.chars.proofs.Cursors.{ate, got}
-use Rattle.string_turn.specs.Escapes.{nothing}
-use Rattle.string_turn.specs.Kinds.{lf, cr, dollar, backslash, backtick, leftBrace, isVerbatim, isInterpolated}
-use Rattle.string_turn.specs.Take.{state, isEmpty, nextIs, dollarOf, takeOf}
+use Rattle.classes.specs.Marks.{lf, cr, dollar, backslash, backtick, leftBrace}
+use Rattle.string_turn.specs.Escapes.{noChar}
+use Rattle.string_turn.specs.Kinds.{isVerbatim, isInterpolated}
+use Rattle.string_turn.specs.Take.{scanning, isEmpty, nextIs, dollarOf, takeOf}
 use Rattle.string_turn.specs.declared.take.Pending.the-variants.{Empty}
-use Rattle.string_turn.specs.declared.take.State.{State}
+use Rattle.string_turn.specs.declared.take.Scanning.{Scanning}
 use Rattle.string_turn.specs.declared.take.Got.the-variants as got
 use Rattle.string_turn.specs.Act.{closeOf, lineFeedOf, addOf, plainOf, otherOf, matchOf, actOf}
-use Rattle.string_turn.specs.declared.act.Step.the-variants as step
+use Rattle.string_turn.specs.declared.act.Acted.the-variants as step
 use Rattle.string.proofs.Readings.{Once, once-on, Twice, twice-on}
 
 module _ (white : ℕ → Bool) (t : List ℕ) (start p f : Position) (k b : ℕ) where
-  abbrev before : State
-  before = state p f Empty k
+  abbrev before : Scanning
+  before = scanning p f Empty k
 
   abbrev next : Cursor
   next = cursor (b + 1) (advanced p)
@@ -33,8 +34,8 @@ module _ (white : ℕ → Bool) (t : List ℕ) (start p f : Position) (k b : ℕ
 
   -- ---- a CR before LF
   module _ (e : lookAt t b ≡ Char cr 1) (g : lookAt t (b + 1) ≡ Char lf 1) where
-    abbrev behind : State
-    behind = state (advanced p) first Empty k
+    abbrev behind : Scanning
+    behind = scanning (advanced p) first Empty k
 
     abbrev last : Cursor
     last = cursor (b + 1 + 1) (advanced (advanced p))
@@ -43,7 +44,7 @@ module _ (white : ℕ → Bool) (t : List ℕ) (start p f : Position) (k b : ℕ
     unfolding takeOf dollarOf isInterpolated isEmpty
     took = rw (ate t (cursor b p) e)
 
-    vanishes : actOf white t backtick start cr next before ≡ step.Go nothing (b + 1) behind
+    vanishes : actOf white t backtick start cr next before ≡ step.Go noChar (b + 1) behind
     unfolding actOf closeOf matchOf nextIs isEmpty
     vanishes = rw g
 
@@ -51,11 +52,11 @@ module _ (white : ℕ → Bool) (t : List ℕ) (start p f : Position) (k b : ℕ
     unfolding takeOf dollarOf isInterpolated isEmpty
     took-feed = rw (ate t next g)
 
-    feeds : actOf white t backtick start lf last behind ≡ step.Go lf (b + 1 + 1) (state (lined (advanced (advanced p))) first Empty k)
+    feeds : actOf white t backtick start lf last behind ≡ step.Go lf (b + 1 + 1) (scanning (lined (advanced (advanced p))) first Empty k)
     unfolding actOf closeOf matchOf lineFeedOf isEmpty isVerbatim
     feeds = rw (first-stays f p (advanced (advanced p)))
 
-    pub feed-twice : Twice white t backtick start b before lf (b + 1 + 1) (state (lined (advanced (advanced p))) first Empty k)
+    pub feed-twice : Twice white t backtick start b before lf (b + 1 + 1) (scanning (lined (advanced (advanced p))) first Empty k)
     feed-twice = twice-on white t backtick start b before took vanishes took-feed feeds
 
   -- ---- `\$` before `{`
@@ -67,9 +68,9 @@ module _ (white : ℕ → Bool) (t : List ℕ) (start p f : Position) (k b : ℕ
     unfolding takeOf dollarOf isInterpolated isEmpty nextIs
     took-sign = rw (ate t (cursor b p) e, got t next g, h)
 
-    adds-sign : actOf white t backtick start dollar sign before ≡ step.Go dollar (b + 1 + 1) (state (advanced p) first Empty 0)
+    adds-sign : actOf white t backtick start dollar sign before ≡ step.Go dollar (b + 1 + 1) (scanning (advanced p) first Empty 0)
     unfolding actOf closeOf matchOf otherOf plainOf addOf isEmpty isVerbatim
     adds-sign = rw no-white
 
-    pub sign-once : Once white t backtick start b before dollar (b + 1 + 1) (state (advanced p) first Empty 0)
+    pub sign-once : Once white t backtick start b before dollar (b + 1 + 1) (scanning (advanced p) first Empty 0)
     sign-once = once-on white t backtick start b before took-sign adds-sign

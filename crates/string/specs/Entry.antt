@@ -19,8 +19,8 @@
 --
 -- Each row is proved in proofs/Returns.antt.
 use Prim.Native.Nat.{ℕ}
-use mathlib.Core.List.{List}
 use lib.Dec.{eqb}
+use Rattle.basis.specs.Types.{Code, Offset, Text}
 use Rattle.basis.specs.Pick.{pick}
 use Rattle.position.specs.declared.Position.{Position}
 use Rattle.position.specs.Place.{onLine, beginsLine}
@@ -30,26 +30,26 @@ use Rattle.white.specs.White.{isWhite}
 use Rattle.literal.specs.Trace.{Trace, fails}
 use Rattle.literal.specs.Cut.{cut}
 use Rattle.literal.specs.declared.Scanned.{Scanned}
-use Rattle.string_turn.specs.Kinds.{quote, apostrophe, backtick}
-use Rattle.string.specs.Ends.{argumentAt, fullAt}
-use Rattle.string.specs.Reading.{readingOf}
+use Rattle.classes.specs.Marks.{quote, apostrophe, backtick}
+use Rattle.literal.specs.Answers.{asGiven, full}
+use Rattle.string.specs.Reading.{stringReading}
 
 -- 3: the place is on no line, an ordinary literal starts at column 0, or the terminator is none of the three
-unfoldable pub startOf : Position → ℕ → ℕ
-startOf p q =
+unfoldable pub startNumber : Position → Code → ℕ
+startNumber p q =
     pick (onLine p)
     (pick (eqb q quote) (pick (beginsLine p) 3 0)
     (pick (eqb q apostrophe) 0
     (pick (eqb q backtick) 0 3))) 3
 
 -- the number of the refusal of the arguments, 0 for none: 2, 1, 3
-unfoldable pub argumentOf : List ℕ → ℕ → Position → ℕ → ℕ
-argumentOf t at p q = pick (eqb (doorOf t at) 0) (startOf p q) (doorOf t at)
+unfoldable pub argumentNumber : Text → Offset → Position → Code → ℕ
+argumentNumber t at p q = pick (eqb (doorOf t at) 0) (startNumber p q) (doorOf t at)
 
 -- the reading, with the refusals of the arguments in front
-unfoldable pub traceOf : List ℕ → ℕ → Position → ℕ → Trace
-traceOf t at p q = pick (eqb (argumentOf t at p q) 0) (readingOf isWhite t q (cursor at p)) (fails (argumentAt (argumentOf t at p q) (cursor at p)))
+unfoldable pub stringTrace : Text → Offset → Position → Code → Trace
+stringTrace t at p q = pick (eqb (argumentNumber t at p q) 0) (stringReading isWhite t q (cursor at p)) (fails (asGiven (argumentNumber t at p q) (cursor at p)))
 
 -- the scan's answer
-unfoldable pub scanOf : List ℕ → ℕ → Position → ℕ → ℕ → ℕ → Scanned
-scanOf t at p q limit room = cut (fullAt (cursor at p)) limit room 0 (traceOf t at p q)
+unfoldable pub scanOf : Text → Offset → Position → Code → ℕ → ℕ → Scanned
+scanOf t at p q limit room = cut (full (cursor at p)) limit room 0 (stringTrace t at p q)

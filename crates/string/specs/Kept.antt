@@ -9,6 +9,6 @@ use Rattle.literal.specs.declared.Scanned.{Scanned}
 use Rattle.literal.specs.declared.Scanned.the-variants.{Accepted, Refused}
 
 -- an accepted body that has room stands whole in front of the old rest; of any other nothing is said, since nobody reads it
-abbrev pub Kept : Scanned → Trace → List ℕ → List ℕ → Type 0
-Kept (Accepted e n) x old now = length (bytes x) ≤ length old → now ≡ over (bytes x) old
-Kept (Refused f) x old now = Unit {0}
+abbrev pub Body-kept : Scanned → Trace → List ℕ → List ℕ → Type 0
+Body-kept (Accepted e n) x old now = length (bytes x) ≤ length old → now ≡ over (bytes x) old
+Body-kept (Refused f) x old now = Unit {0}

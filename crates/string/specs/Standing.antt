@@ -4,29 +4,30 @@ use mathlib.Core.List.{List}
 use mathlib.Core.Path.{_≡_}
 use lib.ListN.{length}
 use lib.Seq.{sets}
+use Rattle.basis.specs.Types.{Bytes, Code, Text}
 use Rattle.position.specs.declared.Position.{Position}
 use Rattle.white.specs.White.{isWhite}
 use Rattle.chars.specs.declared.cursor.Cursor.{Cursor}
 use Rattle.literal.specs.Trace.{bytes}
 use Rattle.literal.specs.Cut.{cut}
-use Rattle.string_turn.specs.declared.take.State.{State}
-use Rattle.string.specs.Ends.{fullAt}
-use Rattle.string.specs.Reading.{readingOf, rest}
-use Rattle.string.specs.declared.scan.Stand.{Stand}
+use Rattle.literal.specs.Answers.{full}
+use Rattle.string_turn.specs.declared.take.Scanning.{Scanning}
+use Rattle.string.specs.Reading.{stringReading, rest}
+use Rattle.string.specs.declared.scan.ScanStand.{ScanStand}
 
 -- under a limit and in a room, with n bytes so far
-pub record Measured (t : List ℕ) (from : Cursor) (q limit room at : ℕ) (s : State) (n : ℕ) : Type 0 where
+pub record Measured (t : List ℕ) (from : Cursor) (q limit room at : ℕ) (s : Scanning) (n : ℕ) : Type 0 where
   pub within : n ≤ room
-  pub is : cut (fullAt from) limit room 0 (readingOf isWhite t q from) ≡ cut (fullAt from) limit room n (rest t q (from .place) at s)
+  pub is : cut (full from) limit room 0 (stringReading isWhite t q from) ≡ cut (full from) limit room n (rest t q (from .place) at s)
 
 -- in memory that was old and is now out, where the body has room
-pub record Written (t : List ℕ) (q : ℕ) (from : Cursor) (old out : List ℕ) (at : ℕ) (s : State) (n : ℕ) : Type 0 where
+pub record Written (t : List ℕ) (q : ℕ) (from : Cursor) (old out : List ℕ) (at : ℕ) (s : Scanning) (n : ℕ) : Type 0 where
   pub same : length out ≡ length old
-  pub count : n + length (bytes (rest t q (from .place) at s)) ≡ length (bytes (readingOf isWhite t q from))
-  pub is : length (bytes (readingOf isWhite t q from)) ≤ length old → sets old 0 (bytes (readingOf isWhite t q from)) ≡ sets out n (bytes (rest t q (from .place) at s))
+  pub count : n + length (bytes (rest t q (from .place) at s)) ≡ length (bytes (stringReading isWhite t q from))
+  pub is : length (bytes (stringReading isWhite t q from)) ≤ length old → sets old 0 (bytes (stringReading isWhite t q from)) ≡ sets out n (bytes (rest t q (from .place) at s))
 
 -- a scan of a literal that starts at a place, and stands so before, stands so behind, further on, in memory as long as it was
-pub record Leads (t : List ℕ) (q : ℕ) (start : Position) (limit room : ℕ) (from : Stand) (out : List ℕ) (to : Stand) (now : List ℕ) : Type 0 where
+pub record ScanLeads (t : List ℕ) (q : ℕ) (start : Position) (limit room : ℕ) (from : ScanStand) (out : List ℕ) (to : ScanStand) (now : List ℕ) : Type 0 where
   pub measured : (c : Cursor) → c .place ≡ start → Measured t c q limit room (from .at) (from .state) (from .n) → Measured t c q limit room (to .at) (to .state) (to .n)
   pub written : (c : Cursor) → c .place ≡ start → (old : List ℕ) → Written t q c old out (from .at) (from .state) (from .n) → Written t q c old now (to .at) (to .state) (to .n)
   pub low : from .at ≤ to .at
@@ -35,5 +36,5 @@ pub record Leads (t : List ℕ) (q : ℕ) (start : Position) (limit room : ℕ) 
   pub same : length now ≡ length out
 
 -- wherever the literal starts
-abbrev pub Leads-anywhere : List ℕ → ℕ → ℕ → ℕ → Stand → List ℕ → Stand → List ℕ → Type 0
-Leads-anywhere t q limit room from out to now = (start : Position) → Leads t q start limit room from out to now
+abbrev pub ScanLeads-anywhere : Text → Code → ℕ → ℕ → ScanStand → Bytes → ScanStand → List ℕ → Type 0
+ScanLeads-anywhere t q limit room from out to now = (start : Position) → ScanLeads t q start limit room from out to now

@@ -5,27 +5,24 @@ use mathlib.Core.List.{List}
 use mathlib.Core.Logic.{_⊎_}
 use mathlib.Core.Path.{_≡_}
 use lib.ListN.{length}
+use Rattle.basis.specs.Types.{Code, Offset, Text}
 use Rattle.position.specs.declared.Position.{Position}
 use Rattle.position.specs.Place.{orElse, advanced}
 use Rattle.utf8.specs.Table.{lookAt}
 use Rattle.utf8.specs.declared.Look.the-variants.{Char}
 use Rattle.literal.specs.Trace.{passes}
-use Rattle.string_turn.specs.Kinds.{quote, apostrophe, backtick}
-use Rattle.string_turn.specs.Take.{state}
+use Rattle.classes.specs.Marks.{quote, apostrophe, backtick}
+use Rattle.string_turn.specs.Take.{scanning}
 use Rattle.string_turn.specs.declared.take.Pending.the-variants.{Empty}
-use Rattle.string_turn.specs.declared.take.State.{State}
+use Rattle.string_turn.specs.declared.take.Scanning.{Scanning}
 use Rattle.string.specs.Limited.{GoesOn}
 use Rattle.string.specs.declared.scan.Clear.{Clear}
-use Rattle.string.specs.declared.scan.Stand.{Stand}
+use Rattle.string.specs.declared.scan.ScanStand.{ScanStand}
 use Rattle.string.specs.declared.scan.Unit.{Unit}
 
 -- one of the three terminators
-abbrev pub Terminator-of : ℕ → Type 0
+abbrev pub Terminator-of : Code → Type 0
 Terminator-of q = (q ≡ quote) ⊎ (q ≡ apostrophe) ⊎ (q ≡ backtick)
-
--- the space
-abbrev pub space : ℕ
-space = 0x20
 
 -- a character of one byte stands at an offset
 pub record Stands-at (t : List ℕ) (at c : ℕ) : Type 0 where
@@ -33,23 +30,23 @@ pub record Stands-at (t : List ℕ) (at c : ℕ) : Type 0 where
   pub is : lookAt t at ≡ Char c 1
 
 -- the state of a scan with no escape pending, and where it stands
-abbrev pub stateOf : Clear → State
-stateOf here = state (here .place) (here .first) Empty (here .skip)
+abbrev pub clearState : Clear → Scanning
+clearState here = scanning (here .place) (here .first) Empty (here .skip)
 
-abbrev pub clearOf : ℕ → State → ℕ → Clear
+abbrev pub clearOf : Offset → Scanning → ℕ → Clear
 clearOf at s n = record { at = at; place = s .place; first = s .first; skip = s .skip; n = n }
 
-abbrev pub standOf : Clear → Stand
-standOf here = record { at = here .at; state = stateOf here; n = here .n }
+abbrev pub standOf : Clear → ScanStand
+standOf here = record { at = here .at; state = clearState here; n = here .n }
 
 -- the state behind what was read
-abbrev pub behindOf : Clear → Unit → State
-behindOf here u = state (u .place) (orElse (here .first) (advanced (here .place))) Empty (u .skip)
+abbrev pub unitBehind : Clear → Unit → Scanning
+unitBehind here u = scanning (u .place) (orElse (here .first) (advanced (here .place))) Empty (u .skip)
 
 -- within a limit, the reading of a literal goes on behind it with its character added
-abbrev pub Reads : List ℕ → ℕ → Position → Clear → Unit → Type 0
-Reads t q start here u = (limit : ℕ) → passes limit (here .n) ≡ false → GoesOn limit (here .n) t q start (here .at) (stateOf here) (u .c) (here .at + u .width) (behindOf here u)
+abbrev pub Reads : Text → Code → Position → Clear → Unit → Type 0
+Reads t q start here u = (limit : ℕ) → passes limit (here .n) ≡ false → GoesOn limit (here .n) t q start (here .at) (clearState here) (u .c) (here .at + u .width) (unitBehind here u)
 
 -- wherever the literal starts
-abbrev pub Reads-anywhere : List ℕ → ℕ → Clear → Unit → Type 0
+abbrev pub Reads-anywhere : Text → Code → Clear → Unit → Type 0
 Reads-anywhere t q here u = (start : Position) → Reads t q start here u

@@ -7,50 +7,39 @@ ghost use Rattle.basis.specs.Store.{stored};
 ghost use Rattle.white.specs.White.{isWhite};
 ghost use Rattle.utf8.specs.Encode.{encoded};
 ghost use Rattle.literal.specs.Cut.{cut};
-ghost use Rattle.literal.specs.declared.Scanned.the-variants.{Refused};
-ghost use Rattle.string_turn.specs.Kinds.{cr, backtick, backslash};
-ghost use Rattle.string.specs.Ends.{tooLongAt, fullAt, lastOf};
-ghost use Rattle.string.specs.Reading.{begun, readingOf};
-ghost use Rattle.string.specs.Limited.{Answers, Tells};
-ghost use Rattle.string.specs.Kept.{Kept};
-ghost use Rattle.string.specs.Units.{Terminator-of, Stands-at, space, clearOf, standOf, Reads, Reads-anywhere};
-ghost use Rattle.string.specs.Standing.{Leads, Leads-anywhere};
+ghost use Rattle.classes.specs.Marks.{cr, space, backtick, backslash};
+ghost use Rattle.literal.specs.Answers.{full};
+ghost use Rattle.string.specs.Ends.{lastOf};
+ghost use Rattle.string.specs.Reading.{stringBegun, stringReading};
+ghost use Rattle.string.specs.Limited.{LimitAnswers, Tells};
+ghost use Rattle.string.specs.Kept.{Body-kept};
+ghost use Rattle.string.specs.Units.{Terminator-of, Stands-at, clearOf, standOf, Reads, Reads-anywhere};
+ghost use Rattle.string.specs.Standing.{ScanLeads, ScanLeads-anywhere};
 use chars::cursor::Cursor;
+use classes::marks::APOSTROPHE;
+use classes::marks::BACKSLASH;
+use classes::marks::BACKTICK;
+use classes::marks::CR;
+use classes::marks::DOLLAR;
+use classes::marks::LEFT_BRACE;
+use classes::marks::LF;
+use classes::marks::QUOTE;
+use classes::marks::SPACE;
 use fault::Fault;
-use fault::Part;
-use literal::Refusal;
 use literal::Scanned;
 use literal::Terminator;
 use position::Position;
-use string_turn::act::Step;
+use string_turn::act::Acted;
 use string_turn::take::Got;
 use string_turn::take::Last;
 use string_turn::take::Pending;
-use string_turn::take::State;
+use string_turn::take::Scanning;
 use string_turn::take::Stood;
 
-const LF: u32 = 0x0A;
-
-const CR: u32 = 0x0D;
-
-const SPACE: u32 = 0x20;
-
-const QUOTE: u32 = 0x22;
-
-const DOLLAR: u32 = 0x24;
-
-const APOSTROPHE: u32 = 0x27;
-
-const BACKSLASH: u32 = 0x5C;
-
-const BACKTICK: u32 = 0x60;
-
-const LEFT_BRACE: u32 = 0x7B;
-
 // Where a scan stands: the offset, the state, and the length of the body so far.
-struct Stand {
+struct ScanStand {
     at: usize,
-    state: State,
+    state: Scanning,
     n: usize,
 }
 
@@ -81,9 +70,9 @@ const NONE: Unit = Unit {
     more: false,
 };
 
-// A turn under a limit: as Step, or the answer.
-enum Turned {
-    On(u32, usize, State),
+// A turn under a limit: as Acted, or the answer.
+enum LimitedTurn {
+    On(u32, usize, Scanning),
     Over(Scanned),
 }
 
@@ -106,47 +95,14 @@ fn size(c: u32) -> usize
     0
 }
 
-// 7: what is on record there stays.
-fn too_long(start: Position, here: Cursor, on_record: Terminator) -> Scanned
-    ensures { λ r. ⌜ r ≡ Refused (tooLongAt start here on_record) ⌝ }
-{
-    let fault = Fault {
-        number: Fault::STRING_TOO_LONG,
-        place: start,
-        part: Part::NONE,
-    };
-    Scanned::Refused(Refusal {
-        fault,
-        cursor: here,
-        on_record,
-    })
-}
-
-// 9, which stands where the scan began.
-fn full(from: Cursor) -> Scanned
-    ensures { λ r. ⌜ r ≡ Refused (fullAt from) ⌝ }
-{
-    let place = from.place;
-    let fault = Fault {
-        number: Fault::NO_LITERAL_ROOM,
-        place,
-        part: Part::NONE,
-    };
-    Scanned::Refused(Refusal {
-        fault,
-        cursor: from,
-        on_record: Terminator::NONE,
-    })
-}
-
 // How a scan is over under a limit, with a body of n bytes.
 fn answered(start: Position, limit: usize, n: usize, last: Last) -> Scanned
-    ensures { λ r. ⌜ Answers limit n (lastOf start last) r ⌝ }
+    ensures { λ r. ⌜ LimitAnswers limit n (lastOf start last) r ⌝ }
 {
     match last {
         Last::Good(end) => {
             if literal::is_over(limit, n) {
-                return too_long(start, end.cursor, end.on_record);
+                return Scanned::too_long(start, end.cursor, end.on_record);
             }
             return Scanned::Accepted(end, n);
         }
@@ -319,24 +275,32 @@ fn unit_at(text: &[u8], q: u32, start: Position, here: Clear) -> Unit
 }
 
 // A turn with n bytes in the body: the limit is tested between taking a character and acting on it.
-fn turn(text: &[u8], q: u32, start: Position, limit: usize, n: usize, at: usize, s: State) -> Turned
+fn turn(
+    text: &[u8],
+    q: u32,
+    start: Position,
+    limit: usize,
+    n: usize,
+    at: usize,
+    s: Scanning,
+) -> LimitedTurn
     ensures { λ r. ⌜ Tells limit n (now (text .entry)) q start at s r ⌝ }
 {
     match string_turn::take::take(text, q, start, at, s) {
         Got::Over(last) => {
-            return Turned::Over(answered(start, limit, n, last));
+            return LimitedTurn::Over(answered(start, limit, n, last));
         }
         Got::Char(c, here) => {
             if literal::is_over(limit, n) {
                 let on_record = Terminator { c: q, times: 1 };
-                return Turned::Over(too_long(start, here, on_record));
+                return LimitedTurn::Over(Scanned::too_long(start, here, on_record));
             }
             match string_turn::act::act(text, q, start, c, here, s) {
-                Step::Over(last) => {
-                    return Turned::Over(answered(start, limit, n, last));
+                Acted::Over(last) => {
+                    return LimitedTurn::Over(answered(start, limit, n, last));
                 }
-                Step::Go(d, next, r) => {
-                    return Turned::On(d, next, r);
+                Acted::Go(d, next, r) => {
+                    return LimitedTurn::On(d, next, r);
                 }
             }
         }
@@ -344,10 +308,10 @@ fn turn(text: &[u8], q: u32, start: Position, limit: usize, n: usize, at: usize,
 }
 
 // Before the first turn.
-fn begun(place: Position) -> State
-    ensures { λ r. ⌜ r ≡ begun place ⌝ }
+fn begun(place: Position) -> Scanning
+    ensures { λ r. ⌜ r ≡ stringBegun place ⌝ }
 {
-    State {
+    Scanning {
         place,
         first: Position::NONE,
         escape: Pending::Empty,
@@ -381,7 +345,7 @@ fn put(c: u32, out: &mut [u8], n: usize)
 // Reads one byte that a turn would only take and add, if neither the limit nor the room is in the way.
 fn add_byte(text: &[u8], q: u32, limit: usize, room: usize, here: Clear, out: &mut [u8]) -> Clear
     requires { ⌜ Terminator-of q × (here .n ≤ room) ⌝ }
-    ensures { λ r. ⌜ Leads-anywhere (now (text .entry)) q limit room (standOf here) (now (out .entry)) (standOf r) (now (out .exit)) ⌝ }
+    ensures { λ r. ⌜ ScanLeads-anywhere (now (text .entry)) q limit room (standOf here) (now (out .entry)) (standOf r) (now (out .exit)) ⌝ }
 {
     let below = here.skip;
     if below != 0 {
@@ -419,7 +383,7 @@ fn add_unit(
     out: &mut [u8],
 ) -> Clear
     requires { ⌜ Terminator-of q × (here .n ≤ room) ⌝ }
-    ensures { λ r. ⌜ Leads (now (text .entry)) q start limit room (standOf here) (now (out .entry)) (standOf r) (now (out .exit)) ⌝ }
+    ensures { λ r. ⌜ ScanLeads (now (text .entry)) q start limit room (standOf here) (now (out .entry)) (standOf r) (now (out .exit)) ⌝ }
 {
     let n = here.n;
     if literal::is_over(limit, here.n) {
@@ -452,7 +416,7 @@ fn add_unit(
 // Reads what turns would only take and add, as far as neither the limit nor the room is in the way.
 fn add_stretch(text: &[u8], q: u32, limit: usize, room: usize, here: Clear, out: &mut [u8]) -> Clear
     requires { ⌜ Terminator-of q × (here .n ≤ room) ⌝ }
-    ensures { λ r. ⌜ Leads-anywhere (now (text .entry)) q limit room (standOf here) (now (out .entry)) (standOf r) (now (out .exit)) ⌝ }
+    ensures { λ r. ⌜ ScanLeads-anywhere (now (text .entry)) q limit room (standOf here) (now (out .entry)) (standOf r) (now (out .exit)) ⌝ }
 {
     if here.skip != 0 {
         return here;
@@ -487,7 +451,7 @@ fn ahead(
     out: &mut [u8],
 ) -> Clear
     requires { ⌜ Terminator-of q × (from .n ≤ room) ⌝ }
-    ensures { λ r. ⌜ Leads (now (text .entry)) q start limit room (standOf from) (now (out .entry)) (standOf r) (now (out .exit)) ⌝ }
+    ensures { λ r. ⌜ ScanLeads (now (text .entry)) q start limit room (standOf from) (now (out .entry)) (standOf r) (now (out .exit)) ⌝ }
 {
     let mut here = from;
     loop {
@@ -505,7 +469,7 @@ fn ahead(
 }
 
 // Where a scan stands, without the escape of its state, and with none.
-fn cleared(at: usize, s: State, n: usize) -> Clear
+fn cleared(at: usize, s: Scanning, n: usize) -> Clear
     ensures { λ r. ⌜ r ≡ clearOf at s n ⌝ }
 {
     let place = s.place;
@@ -519,18 +483,18 @@ fn cleared(at: usize, s: State, n: usize) -> Clear
     }
 }
 
-fn standing(here: Clear) -> Stand
+fn standing(here: Clear) -> ScanStand
     ensures { λ r. ⌜ r ≡ standOf here ⌝ }
 {
     let place = here.place;
     let first = here.first;
-    let state = State {
+    let state = Scanning {
         place,
         first,
         escape: Pending::Empty,
         skip: here.skip,
     };
-    Stand {
+    ScanStand {
         at: here.at,
         state,
         n: here.n,
@@ -544,11 +508,11 @@ fn lead(
     start: Position,
     limit: usize,
     room: usize,
-    from: Stand,
+    from: ScanStand,
     out: &mut [u8],
-) -> Stand
+) -> ScanStand
     requires { ⌜ from .n ≤ room ⌝ }
-    ensures { λ r. ⌜ Leads (now (text .entry)) q start limit room from (now (out .entry)) r (now (out .exit)) ⌝ }
+    ensures { λ r. ⌜ ScanLeads (now (text .entry)) q start limit room from (now (out .entry)) r (now (out .exit)) ⌝ }
 {
     if is_terminator(q) {
         let s = from.state;
@@ -566,12 +530,12 @@ fn lead(
     from
 }
 
-// Inner: the scan of a literal whose start is the cursor's place: how it ends and the length of the body, within a limit and a
+// The scan of a literal whose start is the cursor's place: how it ends and the length of the body, within a limit and a
 // room. The body goes to the front of `out`, where it is whole if the scan is accepted and it has room there: with no room the
 // literal is only measured. It does not ask the arguments.
 pub fn scan(text: &[u8], from: Cursor, q: u32, limit: usize, room: usize, out: &mut [u8]) -> Scanned
-    ensures { λ r. ⌜ r ≡ cut (fullAt from) limit room 0 (readingOf isWhite (now (text .entry)) q from) ⌝ }
-    ensures { λ r. ⌜ Kept r (readingOf isWhite (now (text .entry)) q from) (now (out .entry)) (now (out .exit)) ⌝ }
+    ensures { λ r. ⌜ r ≡ cut (full from) limit room 0 (stringReading isWhite (now (text .entry)) q from) ⌝ }
+    ensures { λ r. ⌜ Body-kept r (stringReading isWhite (now (text .entry)) q from) (now (out .entry)) (now (out .exit)) ⌝ }
 {
     let start = from.place;
     let mut at = from.at;
@@ -584,20 +548,20 @@ pub fn scan(text: &[u8], from: Cursor, q: u32, limit: usize, room: usize, out: &
             start,
             limit,
             room,
-            Stand { at, state: s, n },
+            ScanStand { at, state: s, n },
             &mut *out,
         );
         at = stand.at;
         s = stand.state;
         n = stand.n;
         match turn(text, q, start, limit, n, at, s) {
-            Turned::Over(r) => {
+            LimitedTurn::Over(r) => {
                 return r;
             }
-            Turned::On(d, next, r) => {
+            LimitedTurn::On(d, next, r) => {
                 let m = size(d);
                 if room - n < m {
-                    return full(from);
+                    return Scanned::as_given(Fault::NO_LITERAL_ROOM, from);
                 }
                 utf8::encoder::put(d, &mut *out, n);
                 n += m;

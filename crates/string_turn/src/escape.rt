@@ -4,15 +4,14 @@ ghost use Prim.Native.Nat.{_+_, _≤_};
 ghost use lib.ListN.{length};
 ghost use Rattle.utf8.specs.Table.{lookAt};
 ghost use Rattle.utf8.specs.declared.Look.the-variants.{Char};
-ghost use Rattle.string_turn.specs.Escapes.{nothing, letterOf, digitsAfter, digitsFrom, numberOf, escapedOf};
+ghost use Rattle.string_turn.specs.Escapes.{noChar, letterOf, digitsAfter, digitsFrom, scalarOf, escapedOf};
 ghost use Rattle.string_turn.specs.Whole.{Digits-at, Whole-at};
 use chars::cursor::Cursor;
 use chars::cursor::Taken;
+use classes::marks::BACKSLASH;
 
 // No character: it stands for nothing, and has no encoding.
 pub const NOTHING: u32 = 0x110000;
-
-const BACKSLASH: u32 = 0x5C;
 
 // An escape whose character was taken: what it stands for and the cursor behind it, that it is
 // malformed and the cursor then, or that it is none of those that all literals have.
@@ -23,12 +22,12 @@ pub enum Escaped {
 }
 
 // What a whole escape stands for, and how many bytes it has, its backslash too; 0 where none was read.
-pub struct Whole {
+pub struct WholeEscape {
     pub c: u32,
     pub width: usize,
 }
 
-const NONE: Whole = Whole {
+const NONE: WholeEscape = WholeEscape {
     c: NOTHING,
     width: 0,
 };
@@ -90,7 +89,7 @@ fn hex_digits(text: &[u8], n: u32, from: Cursor) -> Digits
 // The scalar value that n digits make: a surrogate or a number above 10FFFF is malformed.
 fn number(text: &[u8], n: u32, here: Cursor) -> Escaped
     requires { ⌜ n ≤ 8 ⌝ }
-    ensures { λ r. ⌜ r ≡ numberOf (digitsFrom (now (text .entry)) n 0 here) ⌝ }
+    ensures { λ r. ⌜ r ≡ scalarOf (digitsFrom (now (text .entry)) n 0 here) ⌝ }
 {
     match hex_digits(text, n, here) {
         Digits::Value(v, next) => {
@@ -121,7 +120,7 @@ pub(crate) fn unescape(text: &[u8], c: u32, here: Cursor) -> Escaped
 // The number that n bytes from an offset make as hex digits; NOTHING where one is none.
 fn value_at(text: &[u8], from: usize, n: usize) -> u32
     requires { ⌜ n ≤ 8 ⌝ }
-    ensures { λ r. ⌜ ((r ≡ nothing → ⊥) → Digits-at (now (text .entry)) from n r) ⌝ }
+    ensures { λ r. ⌜ ((r ≡ noChar → ⊥) → Digits-at (now (text .entry)) from n r) ⌝ }
 {
     if text.len() < from {
         return NOTHING;
@@ -144,13 +143,13 @@ fn value_at(text: &[u8], from: usize, n: usize) -> u32
 
 // What a backslash and the character c behind it, at an offset, stand for, with the digits that belong to them; none where they
 // are malformed.
-fn whole_of(text: &[u8], q: u32, at: usize, c: u32) -> Whole
+fn whole_of(text: &[u8], q: u32, at: usize, c: u32) -> WholeEscape
     requires { ⌜ (at + 2 ≤ length (now text)) × (lookAt (now text) at ≡ Char 0x5C 1) × (lookAt (now text) (at + 1) ≡ Char c 1) × (0x20 ≤ c) ⌝ }
     ensures { λ r. ⌜ Whole-at (now (text .entry)) q at r ⌝ }
 {
     let letter = letter_of(c);
     if letter != NOTHING {
-        return Whole {
+        return WholeEscape {
             c: letter,
             width: 2,
         };
@@ -158,20 +157,20 @@ fn whole_of(text: &[u8], q: u32, at: usize, c: u32) -> Whole
     let n = digits_after(c) as usize;
     if n == 0 {
         if c == q {
-            return Whole { c: q, width: 2 };
+            return WholeEscape { c: q, width: 2 };
         }
         return NONE;
     }
     let v = value_at(text, at + 2, n);
     if utf8::is_scalar(v) {
-        return Whole { c: v, width: n + 2 };
+        return WholeEscape { c: v, width: n + 2 };
     }
     NONE
 }
 
-// Inner: the escape whose backslash stands at an offset, read at once in a literal with the terminator q. Where there is none, or
+// The escape whose backslash stands at an offset, read at once in a literal with the terminator q. Where there is none, or
 // it is malformed, none is read: the turns of a scan find what to say.
-pub fn whole_at(text: &[u8], q: u32, at: usize) -> Whole
+pub fn whole_at(text: &[u8], q: u32, at: usize) -> WholeEscape
     ensures { λ r. ⌜ Whole-at (now (text .entry)) q at r ⌝ }
 {
     if text.len() <= at {

@@ -1,4 +1,5 @@
 // One turn of a string literal's scan, and the escapes.
 pub mod act;
 pub mod escape;
+mod kinds;
 pub mod take;

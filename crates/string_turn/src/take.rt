@@ -2,33 +2,26 @@
 ghost use mathlib.Core.Bool.{true, false};
 ghost use mathlib.Core.Path.{_≡_};
 ghost use Prim.Native.Nat.{_+_, _≤_, _<_};
-ghost use Rattle.string_turn.specs.Kinds.{backtick, isVerbatim, isContinued, isInterpolated};
-ghost use Rattle.string_turn.specs.Endings.{once, ending, unterminatedAt};
-ghost use Rattle.string_turn.specs.Take.{isEmpty, nextIs, endOf, dollarOf, takeOf};
-ghost use Rattle.string_turn.specs.Passing.{Plain, Added, placeBehind, Passes};
+ghost use Rattle.classes.specs.Marks.{backtick};
+ghost use Rattle.literal.specs.Answers.{once, ending};
+ghost use Rattle.string_turn.specs.Endings.{unterminatedAt};
+ghost use Rattle.string_turn.specs.Take.{isEmpty, nextIs, inputEnd, dollarOf, takeOf};
+ghost use Rattle.string_turn.specs.Passing.{Plain, Added, placeBehind, StringPasses};
+use crate::kinds;
 use chars::cursor::Cursor;
 use chars::cursor::Taken;
+use classes::marks::BACKSLASH;
+use classes::marks::BACKTICK;
+use classes::marks::CR;
+use classes::marks::DOLLAR;
+use classes::marks::LEFT_BRACE;
+use classes::marks::LF;
 use fault::Fault;
-use fault::Part;
 use literal::End;
 use literal::Refusal;
 use literal::Terminator;
 use position::Position;
 use utf8::Look;
-
-const LF: u32 = 0x0A;
-
-const CR: u32 = 0x0D;
-
-const QUOTE: u32 = 0x22;
-
-const DOLLAR: u32 = 0x24;
-
-const BACKSLASH: u32 = 0x5C;
-
-const BACKTICK: u32 = 0x60;
-
-const LEFT_BRACE: u32 = 0x7B;
 
 // What is pending of an escape: nothing, or a lone backslash, with the offset where it stands.
 pub enum Pending {
@@ -37,7 +30,7 @@ pub enum Pending {
 }
 
 // What a turn leaves to the next one. White space in columns below `skip` is skipped.
-pub struct State {
+pub struct Scanning {
     pub place: Position,
     pub first: Position,
     pub escape: Pending,
@@ -63,29 +56,8 @@ pub enum Got {
     Over(Last),
 }
 
-// Text keeps its line feeds, and has no escapes.
-fn is_verbatim(q: u32) -> bool
-    ensures { λ r. ⌜ r ≡ isVerbatim q ⌝ }
-{
-    q == BACKTICK
-}
-
-// An ordinary literal goes on behind a backslash at the end of a line.
-fn is_continued(q: u32) -> bool
-    ensures { λ r. ⌜ r ≡ isContinued q ⌝ }
-{
-    q == QUOTE
-}
-
-// A piece of text ends at `${`.
-fn is_interpolated(q: u32) -> bool
-    ensures { λ r. ⌜ r ≡ isInterpolated q ⌝ }
-{
-    q == BACKTICK
-}
-
 impl Pending {
-    fn is_empty(self) -> bool
+    pub(crate) fn is_empty(self) -> bool
         ensures { λ r. ⌜ r ≡ isEmpty self ⌝ }
     {
         match self {
@@ -96,7 +68,7 @@ impl Pending {
 }
 
 // Whether the character at an offset is c.
-fn next_is(text: &[u8], at: usize, c: u32) -> bool
+pub(crate) fn next_is(text: &[u8], at: usize, c: u32) -> bool
     ensures { λ r. ⌜ r ≡ nextIs (now (text .entry)) at c ⌝ }
 {
     let Look::Char(d, _) = utf8::look_at(text, at) else {
@@ -105,32 +77,27 @@ fn next_is(text: &[u8], at: usize, c: u32) -> bool
     d == c
 }
 
-// 4: the record is cleared.
-fn unterminated(start: Position, here: Cursor) -> Last
+// 4, at the start of the literal: the record is cleared.
+pub(crate) fn unterminated(start: Position, here: Cursor) -> Last
     ensures { λ r. ⌜ r ≡ Last.Bad (unterminatedAt start here) ⌝ }
 {
-    let fault = Fault {
-        number: Fault::UNTERMINATED_STRING,
-        place: start,
-        part: Part::NONE,
-    };
     Last::Bad(Refusal {
-        fault,
+        fault: Fault::at(Fault::UNTERMINATED_STRING, start),
         cursor: here,
         on_record: Terminator::NONE,
     })
 }
 
 // The end of input adds a column. What may go on in a further text keeps its terminator on record.
-fn at_end(q: u32, start: Position, at: usize, s: State) -> Last
-    ensures { λ r. ⌜ r ≡ endOf q start at s ⌝ }
+fn at_end(q: u32, start: Position, at: usize, s: Scanning) -> Last
+    ensures { λ r. ⌜ r ≡ inputEnd q start at s ⌝ }
 {
     let place = s.place.advanced();
     let here = Cursor { at, place };
-    if is_verbatim(q) {
+    if kinds::is_verbatim(q) {
         return still_open(q, here, s.first);
     }
-    if is_continued(q) {
+    if kinds::is_continued(q) {
         let escape = s.escape;
         if escape.is_empty() {
             return unterminated(start, here);
@@ -182,8 +149,8 @@ fn dollar(text: &[u8], c: u32, here: Cursor, first: Position) -> Got
     Got::Char(c, here)
 }
 
-// Inner: the character of a turn that begins at an offset, taken with a column; or how the scan is over.
-pub fn take(text: &[u8], q: u32, start: Position, at: usize, s: State) -> Got
+// The character of a turn that begins at an offset, taken with a column; or how the scan is over.
+pub fn take(text: &[u8], q: u32, start: Position, at: usize, s: Scanning) -> Got
     ensures { λ r. ⌜ r ≡ takeOf (now (text .entry)) q start at s ⌝ }
 {
     let place = s.place;
@@ -192,7 +159,7 @@ pub fn take(text: &[u8], q: u32, start: Position, at: usize, s: State) -> Got
     let Taken::Char(c, here) = from.eat_next_and_advance(text) else {
         return Got::Over(at_end(q, start, at, s));
     };
-    if is_interpolated(q) {
+    if kinds::is_interpolated(q) {
         if escape.is_empty() {
             return dollar(text, c, here, s.first);
         }
@@ -204,7 +171,7 @@ pub fn take(text: &[u8], q: u32, start: Position, at: usize, s: State) -> Got
 // Passes all but the terminator, a backslash, `$`, LF and CR, in `most` bytes at the most.
 fn stretch(text: &[u8], q: u32, most: usize, from: Stood) -> Stood
     requires { ⌜ q < 0x80 ⌝ }
-    ensures { λ r. ⌜ Passes (now (text .entry)) q from r ⌝ }
+    ensures { λ r. ⌜ StringPasses (now (text .entry)) q from r ⌝ }
     ensures { λ r. ⌜ r .at ≤ from .at + most ⌝ }
 {
     let passed = chars::passing::pass(text, from.at, most, q, BACKSLASH, DOLLAR, LF, CR);
@@ -241,9 +208,9 @@ fn is_plain(q: u32, b: u32) -> bool
     b < 0x80
 }
 
-// Inner: passes one such byte, if one stands here. It is for places where more of them are unlikely: a stretch takes longer to begin.
+// Passes one such byte, if one stands here. It is for places where more of them are unlikely: a stretch takes longer to begin.
 pub fn pass_byte(text: &[u8], q: u32, from: Stood) -> Stood
-    ensures { λ r. ⌜ Passes (now (text .entry)) q from r ⌝ }
+    ensures { λ r. ⌜ StringPasses (now (text .entry)) q from r ⌝ }
     ensures { λ r. ⌜ r .at ≤ from .at + 1 ⌝ }
 {
     let at = from.at;
@@ -294,7 +261,7 @@ fn place_behind(c: u32, p: Position) -> Position
 
 // In text, passes a character that the rules name, if a turn only adds it.
 fn pass_one(text: &[u8], from: Stood) -> Stood
-    ensures { λ r. ⌜ Passes (now (text .entry)) backtick from r ⌝ }
+    ensures { λ r. ⌜ StringPasses (now (text .entry)) backtick from r ⌝ }
     ensures { λ r. ⌜ r .at ≤ from .at + 1 ⌝ }
 {
     let at = from.at;
@@ -317,7 +284,7 @@ fn pass_one(text: &[u8], from: Stood) -> Stood
 
 // In text, passes the characters that the rules name, as long as turns only add them.
 fn pass_added(text: &[u8], most: usize, from: Stood) -> Stood
-    ensures { λ r. ⌜ Passes (now (text .entry)) backtick from r ⌝ }
+    ensures { λ r. ⌜ StringPasses (now (text .entry)) backtick from r ⌝ }
     ensures { λ r. ⌜ r .at ≤ from .at + most ⌝ }
 {
     let mut here = from;
@@ -335,7 +302,7 @@ fn pass_added(text: &[u8], most: usize, from: Stood) -> Stood
 
 // In text, passes all that turns only add, behind a stretch.
 fn pass_on(text: &[u8], most: usize, from: Stood) -> Stood
-    ensures { λ r. ⌜ Passes (now (text .entry)) backtick from r ⌝ }
+    ensures { λ r. ⌜ StringPasses (now (text .entry)) backtick from r ⌝ }
     ensures { λ r. ⌜ r .at ≤ from .at + most ⌝ }
 {
     let mut here = from;
@@ -352,18 +319,18 @@ fn pass_on(text: &[u8], most: usize, from: Stood) -> Stood
     }
 }
 
-// Inner: passes at once what turns would only take and add, in `most` bytes at the most, for a terminator, which is ASCII. Most
+// Passes at once what turns would only take and add, in `most` bytes at the most, for a terminator, which is ASCII. Most
 // stretches end at the terminator, so that is looked for first.
 pub fn pass(text: &[u8], q: u32, most: usize, from: Stood) -> Stood
     requires { ⌜ q < 0x80 ⌝ }
-    ensures { λ r. ⌜ Passes (now (text .entry)) q from r ⌝ }
+    ensures { λ r. ⌜ StringPasses (now (text .entry)) q from r ⌝ }
     ensures { λ r. ⌜ r .at ≤ from .at + most ⌝ }
 {
     if next_is(text, from.at, q) {
         return from;
     }
     let near = stretch(text, q, most, from);
-    if is_verbatim(q) {
+    if kinds::is_verbatim(q) {
         return pass_on(text, most - (near.at - from.at), near);
     }
     near

@@ -1,8 +1,9 @@
 -- The arguments refused, the scan refused, or the body written by the same scan once more: laws of proofs/Entering.antt.
 use mathlib.Core.Path.{sym, _∙_}
 use borrow.Author.Needs.{needs}
+use Rattle.literal.proofs.Turns.{wrote-refused}
 use Rattle.string.proofs.scan.Keeps.{accepted-kept}
-use Rattle.string.proofs.Entering.{leaves, leaves-refused, argument-refused, scans, has-room, writes}
+use Rattle.string.proofs.Entering.{argument-refused, scans, has-room, writes}
 use Rattle.string.proofs.parse_string_literal.Statement.{statement}
 use Rattle.string.proofs.parse_string_literal.Tie as tie
 
@@ -10,7 +11,7 @@ returns : tie.Need-returns
 returns c =
     let scan = c .before .before .before in
     let asked = scan .before .before in
-    (scans _ _ _ _ _ _ (asked .before .argument-number .ensures) (asked .if1 .taken) (scan .scan .ensures .0), leaves _ _ (c .enum-told2 .given .1))
+    (scans _ _ _ _ _ _ (asked .before .argument-number .ensures) (asked .if1 .taken) (scan .scan .ensures .0), wrote-refused (c .enum-told2 .given .1) _ _)
 
 returns-2 : tie.Need-returns-2
 returns-2 c =
@@ -26,7 +27,7 @@ returns-2 c =
     )
 
 returns-3 : tie.Need-returns-3
-returns-3 c = (argument-refused _ _ _ _ _ _ (c .before .before .argument-number .ensures) (c .before .if1 .left) (c .refused .ensures), leaves-refused _ _ _)
+returns-3 c = (argument-refused _ _ _ _ _ _ (c .before .before .argument-number .ensures) (c .before .if1 .left) (c .as-given .ensures), wrote-refused (c .as-given .ensures) _ _)
 
 pub parse-string-literal-spec : {M : Type 1} → statement M
 parse-string-literal-spec =

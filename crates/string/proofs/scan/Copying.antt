@@ -25,14 +25,14 @@ use Rattle.chars.proofs.Stretches as stretches
 use Rattle.chars.proofs.Stretches.{stretched}
 use Rattle.literal.specs.Trace.{Trace, adds, checks, bytes}
 use Rattle.literal.specs.declared.Refusal.{Refusal}
-use Rattle.string_turn.specs.Kinds.{backtick}
-use Rattle.string_turn.specs.Take.{state}
-use Rattle.string_turn.specs.Passing.{Plain, Added, placeBehind, stateOf, Passes, none, some, one, then}
+use Rattle.classes.specs.Marks.{backtick}
+use Rattle.string_turn.specs.Take.{scanning}
+use Rattle.string_turn.specs.Passing.{Plain, Added, placeBehind, stoodState, StringPasses, none, some, one, then}
 use Rattle.string_turn.specs.declared.take.Pending.the-variants.{Empty}
-use Rattle.string_turn.specs.declared.take.State.{State}
+use Rattle.string_turn.specs.declared.take.Scanning.{Scanning}
 use Rattle.string_turn.specs.declared.take.Stood.{Stood}
 use Rattle.string_turn.proofs.take.Passing.{passes-low, passes-within}
-use Rattle.string.specs.Reading.{rule, rest}
+use Rattle.string.specs.Reading.{stringRule, rest}
 use Rattle.string.proofs.Passing.{one-after, one-added, after-none, after-some}
 use Rattle.string.proofs.Passing as passing
 use Rattle.string.specs.Standing.{Written}
@@ -86,26 +86,26 @@ module _ (t : List ℕ) (q : ℕ) (start : Position) (at : ℕ) where
   read b c f r = sym (append-assoc (part t at b) (encoded c) (bytes r))
 
   module _ (p f : Position) where
-    abbrev after′ : ℕ → State
+    abbrev after′ : ℕ → Scanning
     after′ k = passing.after isWhite t q start p f k
 
-    one-passed : (k b c w : ℕ) → at ≤ b → lookAt t b ≡ Char c w → Plain q c → stretches.Plain (rule isWhite t q start) t after′ view k b w
+    one-passed : (k b c w : ℕ) → at ≤ b → lookAt t b ≡ Char c w → Plain q c → stretches.Plain (stringRule isWhite t q start) t after′ view k b w
     one-passed k b c w h e y =
         ap (view b) (one-after isWhite t q start p f k b e y) ∙ read b c _ _ ∙ ap (λ (l : List ℕ). l ++ bytes (rest t q start (b + w) (after′ (k + 1)))) (part-char t at b h e)
 
-    all-passed : {k b : ℕ} → Stretch t (Plain q) at k b → bytes (rest t q start at (state p f Empty 0)) ≡ part t at b ++ bytes (rest t q start b (after′ k))
+    all-passed : {k b : ℕ} → Stretch t (Plain q) at k b → bytes (rest t q start at (scanning p f Empty 0)) ≡ part t at b ++ bytes (rest t q start b (after′ k))
     all-passed {k} {b} x =
-        ap (λ (l : List ℕ). l ++ bytes (rest t q start at (state p f Empty 0))) (sym (part-none t at at (omega arith)))
-        ∙ ap (λ (s : State). view at (rest t q start at s)) (sym (after-none isWhite t q start p f))
-        ∙ stretched (rule isWhite t q start) t after′ view (Plain q) at b (λ k b c w h l. one-passed k b c w h) x (omega arith)
+        ap (λ (l : List ℕ). l ++ bytes (rest t q start at (scanning p f Empty 0))) (sym (part-none t at at (omega arith)))
+        ∙ ap (λ (s : Scanning). view at (rest t q start at s)) (sym (after-none isWhite t q start p f))
+        ∙ stretched (stringRule isWhite t q start) t after′ view (Plain q) at b (λ k b c w h l. one-passed k b c w h) x (omega arith)
 
     one-more : q ≡ backtick → {c : ℕ} → lookAt t at ≡ Char c 1 → Added t (at + 1) c
-        → bytes (rest t q start at (state p f Empty 0)) ≡ part t at (at + 1) ++ bytes (rest t q start (at + 1) (state (placeBehind c p) (orElse f (advanced p)) Empty 0))
+        → bytes (rest t q start at (scanning p f Empty 0)) ≡ part t at (at + 1) ++ bytes (rest t q start (at + 1) (scanning (placeBehind c p) (orElse f (advanced p)) Empty 0))
     one-more h {c} e a =
-        ap (λ (l : List ℕ). l ++ bytes (rest t q start at (state p f Empty 0))) (sym (part-none t at at (omega arith)))
+        ap (λ (l : List ℕ). l ++ bytes (rest t q start at (scanning p f Empty 0))) (sym (part-none t at at (omega arith)))
         ∙ ap (view at) (one-added isWhite t q start p f at e h a)
         ∙ read at c _ _
-        ∙ ap (λ (l : List ℕ). l ++ bytes (rest t q start (at + 1) (state (placeBehind c p) (orElse f (advanced p)) Empty 0))) (part-char t at at (omega arith) e)
+        ∙ ap (λ (l : List ℕ). l ++ bytes (rest t q start (at + 1) (scanning (placeBehind c p) (orElse f (advanced p)) Empty 0))) (part-char t at at (omega arith) e)
 
 part-size : (t : List ℕ) (at to : ℕ) → (at < to → to ≤ length t) → length (part t at to) ≡ to - at
 part-size t at to h =
@@ -114,17 +114,17 @@ part-size t at to h =
     (split at to)
 
 module _ (t : List ℕ) (q : ℕ) (start : Position) where
-  pub passed-bytes : {u r : Stood} → Passes t q u r → bytes (rest t q start (u .at) (stateOf u)) ≡ part t (u .at) (r .at) ++ bytes (rest t q start (r .at) (stateOf r))
+  pub passed-bytes : {u r : Stood} → StringPasses t q u r → bytes (rest t q start (u .at) (stoodState u)) ≡ part t (u .at) (r .at) ++ bytes (rest t q start (r .at) (stoodState r))
   passed-bytes {u} none = rw (part-none t (u .at) (u .at) (omega arith))
   passed-bytes {u} (some {k = k} x y) = rw (← after-some isWhite t q start (u .place) (u .first) k y) (all-passed t q start (u .at) (u .place) (u .first) x)
   passed-bytes {u} (one y e a) = one-more t q start (u .at) (u .place) (u .first) y e a
   passed-bytes {u} {r} (then {v = v} x y) =
       passed-bytes x
       ∙ ap (λ (l : List ℕ). part t (u .at) (v .at) ++ l) (passed-bytes y)
-      ∙ sym (append-assoc (part t (u .at) (v .at)) (part t (v .at) (r .at)) (bytes (rest t q start (r .at) (stateOf r))))
-      ∙ ap (λ (l : List ℕ). l ++ bytes (rest t q start (r .at) (stateOf r))) (part-on t (u .at) (v .at) (r .at) (passes-low x) (passes-low y))
+      ∙ sym (append-assoc (part t (u .at) (v .at)) (part t (v .at) (r .at)) (bytes (rest t q start (r .at) (stoodState r))))
+      ∙ ap (λ (l : List ℕ). l ++ bytes (rest t q start (r .at) (stoodState r))) (part-on t (u .at) (v .at) (r .at) (passes-low x) (passes-low y))
 
 -- ---- the loop
-module _ (t : List ℕ) (q : ℕ) (from : Cursor) (old out : List ℕ) (u : Stood) (n : ℕ) (i : Written t q from old out (u .at) (stateOf u) n) where
-  pub written-passed : {r : Stood} → Passes t q u r → {l : List ℕ} → l ≡ stored out n (part t (u .at) (r .at)) → Written t q from old l (r .at) (stateOf r) (n + (r .at - u .at))
-  written-passed {r} x v = written-on t q from old out (u .at) (stateOf u) n i (part t (u .at) (r .at)) (passed-bytes t q (from .place) x) (rw (part-size t (u .at) (r .at) (passes-within x))) v
+module _ (t : List ℕ) (q : ℕ) (from : Cursor) (old out : List ℕ) (u : Stood) (n : ℕ) (i : Written t q from old out (u .at) (stoodState u) n) where
+  pub written-passed : {r : Stood} → StringPasses t q u r → {l : List ℕ} → l ≡ stored out n (part t (u .at) (r .at)) → Written t q from old l (r .at) (stoodState r) (n + (r .at - u .at))
+  written-passed {r} x v = written-on t q from old out (u .at) (stoodState u) n i (part t (u .at) (r .at)) (passed-bytes t q (from .place) x) (rw (part-size t (u .at) (r .at) (passes-within x))) v

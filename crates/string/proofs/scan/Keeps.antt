@@ -8,8 +8,8 @@ use Rattle.literal.specs.Trace.{Trace, bytes}
 use Rattle.literal.specs.declared.End.{End}
 use Rattle.literal.specs.declared.Scanned.{Scanned}
 use Rattle.literal.specs.declared.Scanned.the-variants.{Accepted}
-use Rattle.string.specs.Kept.{Kept}
+use Rattle.string.specs.Kept.{Body-kept}
 
 -- an accepted body that has room
-pub accepted-kept : {r : Scanned} {e : End} {n : ℕ} (x : Trace) (old : List ℕ) {now : List ℕ} → r ≡ Accepted e n → Kept r x old now → length (bytes x) ≤ length old → now ≡ over (bytes x) old
+pub accepted-kept : {r : Scanned} {e : End} {n : ℕ} (x : Trace) (old : List ℕ) {now : List ℕ} → r ≡ Accepted e n → Body-kept r x old now → length (bytes x) ≤ length old → now ≡ over (bytes x) old
 accepted-kept x old e k h = (rw e at k) h

@@ -13,17 +13,17 @@ use Rattle.position.specs.declared.Position.{Position}
 use Rattle.position.specs.Place.{orElse, advanced}
 use Rattle.utf8.specs.Encode.{encoded}
 use Rattle.literal.specs.Trace.{passes}
-use Rattle.string_turn.specs.Passing.{Passes}
+use Rattle.string_turn.specs.Passing.{StringPasses}
 use Rattle.string_turn.specs.Passing as passing
 use Rattle.string_turn.proofs.take.Passing.{passes-low, passes-within}
-use Rattle.string_turn.specs.Take.{state}
+use Rattle.string_turn.specs.Take.{scanning}
 use Rattle.string_turn.specs.declared.take.Pending.{Pending}
 use Rattle.string_turn.specs.declared.take.Pending.the-variants.{Empty}
 use Rattle.string_turn.specs.declared.take.Stood.{Stood}
-use Rattle.string.specs.Standing.{Leads, Leads-anywhere}
+use Rattle.string.specs.Standing.{ScanLeads, ScanLeads-anywhere}
 use Rattle.string.specs.Units.{clearOf, standOf, Reads}
 use Rattle.string.specs.declared.scan.Clear.{Clear}
-use Rattle.string.specs.declared.scan.Stand.{Stand}
+use Rattle.string.specs.declared.scan.ScanStand.{ScanStand}
 use Rattle.string.specs.declared.scan.Unit.{Unit}
 use Rattle.string.proofs.scan.Measuring.{measured-more}
 use Rattle.string.proofs.scan.Passing.{measured-passed}
@@ -34,10 +34,10 @@ abbrev pub clear : ℕ → Position → Position → ℕ → ℕ → Clear
 clear at p f k n = record { at = at; place = p; first = f; skip = k; n = n }
 
 module _ (t : List ℕ) (q : ℕ) (start : Position) (limit room : ℕ) where
-  pub stays : (from : Stand) (out : List ℕ) → from .n ≤ room → Leads t q start limit room from out from out
+  pub stays : (from : ScanStand) (out : List ℕ) → from .n ≤ room → ScanLeads t q start limit room from out from out
   stays from out h = record { measured = λ c e i. i; written = λ c e old i. i; low = omega arith; high = λ l. absurd (omega arith); within = h; same = refl }
 
-  pub leads-then : {a b c : Stand} {out mid now : List ℕ} → Leads t q start limit room a out b mid → Leads t q start limit room b mid c now → Leads t q start limit room a out c now
+  pub leads-then : {a b c : ScanStand} {out mid now : List ℕ} → ScanLeads t q start limit room a out b mid → ScanLeads t q start limit room b mid c now → ScanLeads t q start limit room a out c now
   leads-then {a} {b} {c} x y =
       record {
         measured = λ k e i. y .measured k e (x .measured k e i);
@@ -51,7 +51,7 @@ module _ (t : List ℕ) (q : ℕ) (start : Position) (limit room : ℕ) where
   -- a unit
   module _ (here : Clear) (u : Unit) (w : here .n ≤ room) (x : Reads t q start here u) (o : passes limit (here .n) ≡ false) {m : ℕ} (z : m ≡ length (encoded (u .c))) (h : m ≤ room - here .n) where
     pub adds-on : {out now : List ℕ} → now ≡ stored out (here .n) (encoded (u .c)) → {p f : Position} → p ≡ advanced (here .place) → f ≡ orElse (here .first) p
-        → Leads t q start limit room (standOf here) out (standOf (clear (here .at + u .width) (u .place) f (u .skip) (here .n + m))) now
+        → ScanLeads t q start limit room (standOf here) out (standOf (clear (here .at + u .width) (u .place) f (u .skip) (here .n + m))) now
     adds-on {out} {now} v e i =
         let g = x limit o in
         rw (i, e) (record {
@@ -64,20 +64,20 @@ module _ (t : List ℕ) (q : ℕ) (start : Position) (limit room : ℕ) where
         })
 
   -- a state with no escape pending is its other parts
-  as-it-stands : (from : Stand) → from .state .escape ≡ Empty → standOf (clearOf (from .at) (from .state) (from .n)) ≡ from
-  as-it-stands from e = ap (λ (x : Pending). record { at = from .at; state = state (from .state .place) (from .state .first) x (from .state .skip); n = from .n }) (sym e)
+  as-it-stands : (from : ScanStand) → from .state .escape ≡ Empty → standOf (clearOf (from .at) (from .state) (from .n)) ≡ from
+  as-it-stands from e = ap (λ (x : Pending). record { at = from .at; state = scanning (from .state .place) (from .state .first) x (from .state .skip); n = from .n }) (sym e)
 
-  pub cleared-leads : (from : Stand) → from .state .escape ≡ Empty → {here to : Clear} {r : Stand} {out now : List ℕ} → here ≡ clearOf (from .at) (from .state) (from .n) → r ≡ standOf to
-      → Leads t q start limit room (standOf here) out (standOf to) now → Leads t q start limit room from out r now
+  pub cleared-leads : (from : ScanStand) → from .state .escape ≡ Empty → {here to : Clear} {r : ScanStand} {out now : List ℕ} → here ≡ clearOf (from .at) (from .state) (from .n) → r ≡ standOf to
+      → ScanLeads t q start limit room (standOf here) out (standOf to) now → ScanLeads t q start limit room from out r now
   cleared-leads from e {here} {to} {r} {out} {now} h g x =
-      let y : Leads t q start limit room (standOf (clearOf (from .at) (from .state) (from .n))) out (standOf to) now = rw h at x in
-      let z : Leads t q start limit room from out (standOf to) now = rw (as-it-stands from e) at y in
+      let y : ScanLeads t q start limit room (standOf (clearOf (from .at) (from .state) (from .n))) out (standOf to) now = rw h at x in
+      let z : ScanLeads t q start limit room from out (standOf to) now = rw (as-it-stands from e) at y in
       rw g z
 
 -- what was passed, and copied
 module _ (t : List ℕ) (q limit room : ℕ) {at n most : ℕ} {p f : Position} (h : n ≤ room) (g : n + most ≤ room) (o : 0 < most → passes limit (n + most) ≡ false) where
-  pub passes-on : {r : Stood} → Passes t q (passing.stood at p f) r → r .at ≤ at + most → {out now : List ℕ} → now ≡ stored out n (take (r .at - at) (drop at t))
-      → Leads-anywhere t q limit room (standOf (clear at p f 0 n)) out (standOf (clear (r .at) (r .place) (r .first) 0 (n + (r .at - at)))) now
+  pub passes-on : {r : Stood} → StringPasses t q (passing.stood at p f) r → r .at ≤ at + most → {out now : List ℕ} → now ≡ stored out n (take (r .at - at) (drop at t))
+      → ScanLeads-anywhere t q limit room (standOf (clear at p f 0 n)) out (standOf (clear (r .at) (r .place) (r .first) 0 (n + (r .at - at)))) now
   passes-on {r} x l {out} v start =
       record {
         measured = λ c k i. measured-passed t c q limit room i g o x l;

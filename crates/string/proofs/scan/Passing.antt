@@ -23,15 +23,15 @@ use Rattle.literal.specs.Cut.{cut}
 use Rattle.literal.specs.declared.Refusal.{Refusal}
 use Rattle.literal.specs.declared.Scanned.{Scanned}
 use Rattle.literal.proofs.Within.{tests-within}
-use Rattle.string_turn.specs.Kinds.{backtick}
-use Rattle.string_turn.specs.Take.{state}
-use Rattle.string_turn.specs.Passing.{Plain, Added, placeBehind, stateOf, Passes, none, some, one, then}
+use Rattle.classes.specs.Marks.{backtick}
+use Rattle.literal.specs.Answers.{full}
+use Rattle.string_turn.specs.Take.{scanning}
+use Rattle.string_turn.specs.Passing.{Plain, Added, placeBehind, stoodState, StringPasses, none, some, one, then}
 use Rattle.string_turn.specs.declared.take.Pending.the-variants.{Empty}
-use Rattle.string_turn.specs.declared.take.State.{State}
+use Rattle.string_turn.specs.declared.take.Scanning.{Scanning}
 use Rattle.string_turn.specs.declared.take.Stood.{Stood}
 use Rattle.string_turn.proofs.take.Passing.{passes-low}
-use Rattle.string.specs.Ends.{fullAt}
-use Rattle.string.specs.Reading.{rule, rest}
+use Rattle.string.specs.Reading.{stringRule, rest}
 use Rattle.string.proofs.Passing.{after, after-none, after-some, one-after, one-added}
 use Rattle.string.specs.Standing.{Measured}
 
@@ -43,44 +43,44 @@ module _ (t : List ℕ) (from : Cursor) (q limit room most at n : ℕ) (p f : Po
   abbrev view : ℕ → Trace → Scanned
   view b r = cut full limit room (n + (b - at)) r
 
-  one-passed : (k b c w : ℕ) → at ≤ b → b + w ≤ at + most → lookAt t b ≡ Char c w → Plain q c → stretches.Plain (rule isWhite t q (from .place)) t (after isWhite t q (from .place) p f) view k b w
+  one-passed : (k b c w : ℕ) → at ≤ b → b + w ≤ at + most → lookAt t b ≡ Char c w → Plain q c → stretches.Plain (stringRule isWhite t q (from .place)) t (after isWhite t q (from .place) p f) view k b w
   one-passed k b c w l h e y =
       let z : b + w - at ≡ b - at + w = omega arith in
       ap (view b) (one-after isWhite t q (from .place) p f k b e y)
       ∙ rw z (tests-within full limit room n most g o (b - at) w (at-width t b e .0) (omega arith) (encoded c) (same-size t b e) _ _)
 
   all-passed : {k b : ℕ} → Stretch t (Plain q) at k b → b ≤ at + most
-      → cut full limit room n (rest t q (from .place) at (state p f Empty 0)) ≡ cut full limit room (n + (b - at)) (rest t q (from .place) b (after isWhite t q (from .place) p f k))
+      → cut full limit room n (rest t q (from .place) at (scanning p f Empty 0)) ≡ cut full limit room (n + (b - at)) (rest t q (from .place) b (after isWhite t q (from .place) p f k))
   all-passed {k} {b} x l =
       let z : n ≡ n + (at - at) = omega arith in
-      ap (λ (m : ℕ). cut full limit room m (rest t q (from .place) at (state p f Empty 0))) z
-      ∙ ap (λ (s : State). view at (rest t q (from .place) at s)) (sym (after-none isWhite t q (from .place) p f))
-      ∙ stretched (rule isWhite t q (from .place)) t (after isWhite t q (from .place) p f) view (Plain q) at (at + most) one-passed x l
+      ap (λ (m : ℕ). cut full limit room m (rest t q (from .place) at (scanning p f Empty 0))) z
+      ∙ ap (λ (s : Scanning). view at (rest t q (from .place) at s)) (sym (after-none isWhite t q (from .place) p f))
+      ∙ stretched (stringRule isWhite t q (from .place)) t (after isWhite t q (from .place) p f) view (Plain q) at (at + most) one-passed x l
 
   one-more : q ≡ backtick → {c : ℕ} → lookAt t at ≡ Char c 1 → Added t (at + 1) c → at + 1 ≤ at + most
-      → cut full limit room n (rest t q (from .place) at (state p f Empty 0))
-      ≡ cut full limit room (n + (at + 1 - at)) (rest t q (from .place) (at + 1) (state (placeBehind c p) (orElse f (advanced p)) Empty 0))
+      → cut full limit room n (rest t q (from .place) at (scanning p f Empty 0))
+      ≡ cut full limit room (n + (at + 1 - at)) (rest t q (from .place) (at + 1) (scanning (placeBehind c p) (orElse f (advanced p)) Empty 0))
   one-more h {c} e a l =
       let z : n ≡ n + (at - at) = omega arith in
       let y : at + 1 - at ≡ at - at + 1 = omega arith in
-      ap (λ (m : ℕ). cut full limit room m (rest t q (from .place) at (state p f Empty 0))) z
+      ap (λ (m : ℕ). cut full limit room m (rest t q (from .place) at (scanning p f Empty 0))) z
       ∙ ap (view at) (one-added isWhite t q (from .place) p f at e h a)
       ∙ rw y (tests-within full limit room n most g o (at - at) 1 (omega arith) (omega arith) (encoded c) (same-size t at e) _ _)
 
 module _ (t : List ℕ) (from : Cursor) (q limit room : ℕ) where
   -- what was passed is measured, where neither is in the way for so many bytes
-  pub measured-passed : {u r : Stood} {n most : ℕ} → Measured t from q limit room (u .at) (stateOf u) n → n + most ≤ room → (0 < most → passes limit (n + most) ≡ false)
-      → Passes t q u r → r .at ≤ u .at + most → Measured t from q limit room (r .at) (stateOf r) (n + (r .at - u .at))
+  pub measured-passed : {u r : Stood} {n most : ℕ} → Measured t from q limit room (u .at) (stoodState u) n → n + most ≤ room → (0 < most → passes limit (n + most) ≡ false)
+      → StringPasses t q u r → r .at ≤ u .at + most → Measured t from q limit room (r .at) (stoodState r) (n + (r .at - u .at))
   measured-passed {u} {n = n} i g o none l =
       let z : n + (u .at - u .at) ≡ n = omega arith in
       rw z i
   measured-passed {u} {n = n} {most} i g o (some {k = k} x y) l =
       record {
         within = omega (arith, g, l, stretch-low x);
-        is = i .is ∙ rw (← after-some isWhite t q (from .place) (u .place) (u .first) k y) (all-passed t from q limit room most (u .at) n (u .place) (u .first) g o (fullAt from) x l);
+        is = i .is ∙ rw (← after-some isWhite t q (from .place) (u .place) (u .first) k y) (all-passed t from q limit room most (u .at) n (u .place) (u .first) g o (full from) x l);
       }
   measured-passed {u} {n = n} {most} i g o (one y e a) l =
-      record { within = omega (arith, g, l); is = i .is ∙ one-more t from q limit room most (u .at) n (u .place) (u .first) g o (fullAt from) y e a l }
+      record { within = omega (arith, g, l); is = i .is ∙ one-more t from q limit room most (u .at) n (u .place) (u .first) g o (full from) y e a l }
   measured-passed {u} {r} {n} {most} i g o (then {v = v} x y) l =
       let low = passes-low x in
       let high = passes-low y in

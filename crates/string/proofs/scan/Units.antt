@@ -18,24 +18,24 @@ use Rattle.utf8.specs.declared.Look.the-variants.{Char}
 use Rattle.utf8.proofs.Bits.{look-ascii}
 use Rattle.utf8.proofs.Encodes.{encoded-none}
 use Rattle.white.specs.White.{isWhite}
-use Rattle.string_turn.specs.Escapes.{nothing}
+use Rattle.classes.specs.Marks.{lf, cr, space, quote, apostrophe, backtick, dollar, backslash, leftBrace}
+use Rattle.string_turn.specs.Escapes.{noChar}
 use Rattle.string_turn.specs.Whole.{Whole-at}
-use Rattle.string_turn.specs.declared.escape.Whole.{Whole}
+use Rattle.string_turn.specs.declared.escape.WholeEscape.{WholeEscape}
 use Rattle.literal.specs.Trace.{adds, checks, bytes, passes}
 use Rattle.literal.specs.Cut.{cut}
 use Rattle.literal.proofs.Turns.{cut-on, cut-adds}
-use Rattle.string_turn.specs.Kinds.{lf, cr, quote, apostrophe, backtick, dollar, backslash, leftBrace, isVerbatim, isInterpolated}
-use Rattle.string_turn.specs.Take.{state}
+use Rattle.string_turn.specs.Kinds.{isVerbatim, isInterpolated}
+use Rattle.string_turn.specs.Take.{scanning}
 use Rattle.string_turn.specs.declared.take.Pending.the-variants.{Empty}
-use Rattle.string_turn.specs.declared.take.State.{State}
-use Rattle.string_turn.specs.Act.{columnOf}
+use Rattle.string_turn.specs.declared.take.Scanning.{Scanning}
 use Rattle.string.specs.Reading.{rest, Escaping, Terminating}
 use Rattle.string.proofs.Readings.{Once, once-on, Twice}
 use Rattle.string.proofs.Escaping.{whole-twice, continues-twice, skips-once}
 use Rattle.string.proofs.Doubling.{doubled-taken, doubled-acted}
 use Rattle.string.proofs.Texts.{feed-twice, sign-once}
 use Rattle.string.specs.Limited.{GoesOn}
-use Rattle.string.specs.Units.{Terminator-of, Stands-at, space, stateOf, Reads, Reads-anywhere}
+use Rattle.string.specs.Units.{Terminator-of, Stands-at, clearState, Reads, Reads-anywhere}
 use Rattle.string.specs.declared.scan.Clear.{Clear}
 use Rattle.string.specs.declared.scan.Unit.{Unit}
 
@@ -89,11 +89,11 @@ ascii-at t at {b} {c} e h low high =
     (split at (length t))
 
 -- ---- one turn, or two
-nothing-added : encoded nothing ≡ []
+nothing-added : encoded noChar ≡ []
 unfolding isScalar
-nothing-added = encoded-none nothing refl
+nothing-added = encoded-none noChar refl
 
-module _ (t : List ℕ) (q : ℕ) (start : Position) (at : ℕ) (s : State) (limit n : ℕ) (within : passes limit n ≡ false) {d next : ℕ} {r : State} where
+module _ (t : List ℕ) (q : ℕ) (start : Position) (at : ℕ) (s : Scanning) (limit n : ℕ) (within : passes limit n ≡ false) {d next : ℕ} {r : Scanning} where
   once-goes : Once isWhite t q start at s d next r → GoesOn limit n t q start at s d next r
   unfolding bytes
   once-goes x =
@@ -123,7 +123,7 @@ two-on : (at : ℕ) → at + 1 + 1 ≡ at + 2
 two-on at = omega arith
 
 -- the same by other names
-goes-as : {t : List ℕ} {q : ℕ} {start : Position} {limit n at d : ℕ} {s : State} {next next′ : ℕ} {r r′ : State}
+goes-as : {t : List ℕ} {q : ℕ} {start : Position} {limit n at d : ℕ} {s : Scanning} {next next′ : ℕ} {r r′ : Scanning}
     → GoesOn limit n t q start at s d next r → next ≡ next′ → r ≡ r′ → GoesOn limit n t q start at s d next′ r′
 goes-as g e h = rw (← e, ← h) g
 
@@ -139,34 +139,33 @@ module _ (t : List ℕ) (q : ℕ) (here : Clear) where
 
   -- a doubled terminator: one turn
   module _ (i : Terminator-of q) (kept : here .skip ≡ 0) (set : isNone f ≡ false) (one : Stands-at t (here .at) q) (two : Stands-at t (here .at + 1) q) {w : Position} (e : w ≡ advancedBy 2 p) where
-    behind-both : state (advanced (advanced p)) (orElse f (advanced (advanced p))) Empty 0 ≡ state w (orElse f (advanced p)) Empty 0
+    behind-both : scanning (advanced (advanced p)) (orElse f (advanced (advanced p))) Empty 0 ≡ scanning w (orElse f (advanced p)) Empty 0
     behind-both = rw (e, two-columns p, first-set f (advanced (advanced p)) set, first-set f (advanced p) set)
 
     pub doubled-reads : Reads-anywhere t q here (unit q 2 w 0)
     doubled-reads start limit within =
-        let x = once-on isWhite t q start (here .at) (state p f Empty 0) (doubled-taken t q start (terminates i) p f (here .at) (one .is)) (doubled-acted t q start (terminates i) p f (here .at) (one .is) (two .is)) in
-        rw kept (goes-as (once-goes t q start (here .at) (state p f Empty 0) limit (here .n) within x) (two-on (here .at)) behind-both)
+        let x = once-on isWhite t q start (here .at) (scanning p f Empty 0) (doubled-taken t q start (terminates i) p f (here .at) (one .is)) (doubled-acted t q start (terminates i) p f (here .at) (one .is) (two .is)) in
+        rw kept (goes-as (once-goes t q start (here .at) (scanning p f Empty 0) limit (here .n) within x) (two-on (here .at)) behind-both)
 
   -- a whole escape: two turns
-  pub escape-reads : Terminator-of q → (q ≡ backtick → ⊥) → {x : Whole} → Whole-at t q (here .at) x → {w : Position} → w ≡ advancedBy (x .width) p
+  pub escape-reads : Terminator-of q → (q ≡ backtick → ⊥) → {x : WholeEscape} → Whole-at t q (here .at) x → {w : Position} → w ≡ advancedBy (x .width) p
       → (x .width ≡ 0 → ⊥) → Reads-anywhere t q here (unit (x .c) (x .width) w (here .skip))
   escape-reads i n {x} y {w} e z start limit within =
-      rw e (twice-goes t q start (here .at) (stateOf here) limit (here .n) within (whole-twice isWhite t q start (escapes i n) p f (here .skip) (here .at) y z))
+      rw e (twice-goes t q start (here .at) (clearState here) limit (here .n) within (whole-twice isWhite t q start (escapes i n) p f (here .skip) (here .at) y z))
 
   -- a space that is skipped: one turn
   pub skipped-reads : Terminator-of q → (q ≡ backtick → ⊥) → Stands-at t (here .at) space → {w : Position} {k : ℕ} → w ≡ advanced p → k ≡ columnNumber w → k < here .skip
-      → Reads-anywhere t q here (unit nothing 1 w (here .skip))
+      → Reads-anywhere t q here (unit noChar 1 w (here .skip))
   skipped-reads i n one {w} {k} e c l start limit within =
       let h : columnNumber (advanced p) < here .skip = rw (← e, ← c) l in
-      rw e (once-goes t q start (here .at) (stateOf here) limit (here .n) within (skips-once isWhite t q start (escapes i n) p f (here .skip) (here .at) (one .is) (no-space i) white-space h))
+      rw e (once-goes t q start (here .at) (clearState here) limit (here .n) within (skips-once isWhite t q start (escapes i n) p f (here .skip) (here .at) (one .is) (no-space i) white-space h))
 
   -- a backslash at the end of a line: two turns
   pub continues-reads : q ≡ quote → Stands-at t (here .at) backslash → Stands-at t (here .at + 1) lf → (start : Position)
-      → {v w : Position} {k : ℕ} → v ≡ advancedBy 2 p → w ≡ lined v → k ≡ columnNumber start → Reads t q start here (unit nothing 2 w (k + 1))
-  unfolding columnOf
+      → {v w : Position} {k : ℕ} → v ≡ advancedBy 2 p → w ≡ lined v → k ≡ columnNumber start → Reads t q start here (unit noChar 2 w (k + 1))
   continues-reads h one two start e g c limit within =
       rw (g, e, c, two-columns p)
-      (goes-as (twice-goes t q start (here .at) (stateOf here) limit (here .n) within (continues-twice isWhite t q start (quote-escapes h) p f (here .skip) (here .at) (one .is) h (two .is))) (two-on (here .at)) refl)
+      (goes-as (twice-goes t q start (here .at) (clearState here) limit (here .n) within (continues-twice isWhite t q start (quote-escapes h) p f (here .skip) (here .at) (one .is) h (two .is))) (two-on (here .at)) refl)
 
 module _ (t : List ℕ) (here : Clear) where
   -- in text, a CR before LF: two turns
@@ -174,7 +173,7 @@ module _ (t : List ℕ) (here : Clear) where
       → Reads-anywhere t backtick here (unit lf 2 w (here .skip))
   feed-reads one two e g start limit within =
       rw (g, e, two-columns (here .place))
-      (goes-as (twice-goes t backtick start (here .at) (stateOf here) limit (here .n) within (feed-twice isWhite t start (here .place) (here .first) (here .skip) (here .at) (one .is) (two .is))) (two-on (here .at)) refl)
+      (goes-as (twice-goes t backtick start (here .at) (clearState here) limit (here .n) within (feed-twice isWhite t start (here .place) (here .first) (here .skip) (here .at) (one .is) (two .is))) (two-on (here .at)) refl)
 
   -- in text, `\$` before `{`: one turn
   no-white : isWhite dollar ≡ false
@@ -185,4 +184,4 @@ module _ (t : List ℕ) (here : Clear) where
       → Reads-anywhere t backtick here (unit dollar 2 w 0)
   sign-reads one two three e start limit within =
       let brace : lookAt t (here .at + 1 + 1) ≡ Char leftBrace 1 = rw (two-on (here .at)) (three .is) in
-      rw e (goes-as (once-goes t backtick start (here .at) (stateOf here) limit (here .n) within (sign-once isWhite t start (here .place) (here .first) (here .skip) (here .at) (one .is) (two .is) brace no-white)) (two-on (here .at)) refl)
+      rw e (goes-as (once-goes t backtick start (here .at) (clearState here) limit (here .n) within (sign-once isWhite t start (here .place) (here .first) (here .skip) (here .at) (one .is) (two .is) brace no-white)) (two-on (here .at)) refl)

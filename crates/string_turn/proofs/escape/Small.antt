@@ -10,7 +10,7 @@ use Rattle.chars.specs.declared.cursor.Cursor.{Cursor}
 use Rattle.chars.specs.declared.cursor.Taken.{Taken}
 use Rattle.chars.specs.declared.cursor.Taken.the-variants as taken
 use Rattle.chars.proofs.Small.{In, Taken-in, ate-in}
-use Rattle.string_turn.specs.Escapes.{nothing, letterOf, digitsAfter, onTaken, onDigit, digitsFrom, numberOf, escapedOf}
+use Rattle.string_turn.specs.Escapes.{noChar, letterOf, digitsAfter, onTaken, onDigit, digitsFrom, scalarOf, escapedOf}
 use Rattle.string_turn.specs.declared.escape.Digits.{Digits}
 use Rattle.string_turn.specs.declared.escape.Digits.the-variants.{Value, Bad}
 use Rattle.string_turn.specs.declared.escape.Escaped.{Escaped}
@@ -36,14 +36,14 @@ module _ (t : List ℕ) where
       by (taken.Char c next) k ih = pick-cases Digits-in (leb 16 (digitOf c)) _ _ (λ y. k) (λ z. ih (v * 16 + digitOf c) next k)
       by taken.End k ih = h
 
-  number-in : (x : Digits) → Digits-in x → Escaped-in (numberOf x)
-  unfolding numberOf
+  number-in : (x : Digits) → Digits-in x → Escaped-in (scalarOf x)
+  unfolding scalarOf
   number-in (Value v c) h = pick-cases Escaped-in (isScalar v) _ _ (λ y. h) (λ n. h)
   number-in (Bad c) h = h
 
   pub escaped-in : (c : ℕ) (here : Cursor) → In t here → Escaped-in (escapedOf t c here)
   unfolding escapedOf
   escaped-in c here h =
-      pick-cases Escaped-in (eqb (letterOf c) nothing) _ _
+      pick-cases Escaped-in (eqb (letterOf c) noChar) _ _
       (λ y. pick-cases Escaped-in (eqb (digitsAfter c) 0) _ _ (λ z. tt) (λ z. number-in (digitsFrom t (digitsAfter c) 0 here) (digits-in (digitsAfter c) 0 here h)))
       (λ n. h)

@@ -17,7 +17,7 @@ use Rattle.chars.specs.declared.cursor.Cursor.{Cursor}
 use Rattle.chars.specs.declared.cursor.Taken.{Taken}
 use Rattle.chars.specs.declared.cursor.Taken.the-variants as taken
 use Rattle.chars.proofs.Cursors.{ate-took}
-use Rattle.string_turn.specs.Escapes.{nothing, letterOf, digitsAfter, onTaken, onDigit, digitsFrom, numberOf, escapedOf}
+use Rattle.string_turn.specs.Escapes.{noChar, letterOf, digitsAfter, onTaken, onDigit, digitsFrom, scalarOf, escapedOf}
 use Rattle.string_turn.specs.declared.escape.Digits.{Digits}
 use Rattle.string_turn.specs.declared.escape.Digits.the-variants.{Value, Bad}
 use Rattle.string_turn.specs.declared.escape.Escaped.{Escaped}
@@ -42,7 +42,7 @@ module _ (c : ℕ) where
   unfolding letterOf
   letter-t e = rw e
 
-  pub no-letter : (c ≡ code "r" → ⊥) → (c ≡ code "n" → ⊥) → (c ≡ code "\\" → ⊥) → (c ≡ code "t" → ⊥) → nothing ≡ letterOf c
+  pub no-letter : (c ≡ code "r" → ⊥) → (c ≡ code "n" → ⊥) → (c ≡ code "\\" → ⊥) → (c ≡ code "t" → ⊥) → noChar ≡ letterOf c
   unfolding letterOf
   no-letter r n b t = rw (ne-eqb c (code "r") r, ne-eqb c (code "n") n, ne-eqb c (code "\\") b, ne-eqb c (code "t") t)
 
@@ -104,33 +104,33 @@ module _ (t : List ℕ) (n : ℕ) (from here : Cursor) (v i : ℕ) (k : Counting
 
 -- what they make
 module _ (t : List ℕ) (n : ℕ) (here : Cursor) {x : Digits} (e : x ≡ digitsFrom t n 0 here) where
-  pub digits-bad : {to : Cursor} → x ≡ Bad to → Malformed to ≡ numberOf (digitsFrom t n 0 here)
-  unfolding numberOf
+  pub digits-bad : {to : Cursor} → x ≡ Bad to → Malformed to ≡ scalarOf (digitsFrom t n 0 here)
+  unfolding scalarOf
   digits-bad y = rw (sym e ∙ y)
 
   module _ {v : ℕ} {to : Cursor} (y : x ≡ Value v to) {b : Bool} (g : b ≡ isScalar v) where
-    pub digits-scalar : b ≡ true → Char v to ≡ numberOf (digitsFrom t n 0 here)
-    unfolding numberOf
+    pub digits-scalar : b ≡ true → Char v to ≡ scalarOf (digitsFrom t n 0 here)
+    unfolding scalarOf
     digits-scalar z = rw (sym e ∙ y, sym g ∙ z)
 
-    pub digits-none : b ≡ false → Malformed to ≡ numberOf (digitsFrom t n 0 here)
-    unfolding numberOf
+    pub digits-none : b ≡ false → Malformed to ≡ scalarOf (digitsFrom t n 0 here)
+    unfolding scalarOf
     digits-none z = rw (sym e ∙ y, sym g ∙ z)
 
 -- the whole
 module _ (t : List ℕ) (c : ℕ) (here : Cursor) {l : ℕ} (e : l ≡ letterOf c) where
-  pub escapes-letter : (l ≡ nothing → ⊥) → Char l here ≡ escapedOf t c here
+  pub escapes-letter : (l ≡ noChar → ⊥) → Char l here ≡ escapedOf t c here
   unfolding escapedOf
-  escapes-letter h = rw (← e, ne-eqb l nothing h)
+  escapes-letter h = rw (← e, ne-eqb l noChar h)
 
-  module _ (h : l ≡ nothing) {n : ℕ} (g : n ≡ digitsAfter c) where
+  module _ (h : l ≡ noChar) {n : ℕ} (g : n ≡ digitsAfter c) where
     pub escapes-other : n ≡ 0 → Other ≡ escapedOf t c here
     unfolding escapedOf
-    escapes-other z = rw (← e, eq-eqb l nothing h, ← g, eq-eqb n 0 z)
+    escapes-other z = rw (← e, eq-eqb l noChar h, ← g, eq-eqb n 0 z)
 
-    pub escapes-number : (n ≡ 0 → ⊥) → {r : Escaped} → r ≡ numberOf (digitsFrom t n 0 here) → r ≡ escapedOf t c here
+    pub escapes-number : (n ≡ 0 → ⊥) → {r : Escaped} → r ≡ scalarOf (digitsFrom t n 0 here) → r ≡ escapedOf t c here
     unfolding escapedOf
-    escapes-number z k = rw (k, ← e, eq-eqb l nothing h, ← g, ne-eqb n 0 z)
+    escapes-number z k = rw (k, ← e, eq-eqb l noChar h, ← g, ne-eqb n 0 z)
 
 -- ---- whole characters
 abbrev pub ReachedIn : List ℕ → ℕ → Digits → Type 0
@@ -158,14 +158,14 @@ digits-reached t (suc n) v here = by (eatNextOf t here) refl (λ u next. digits-
         (λ _. on-reached (digitsFrom t n (v * 16 + digitOf c) next) (took-reached (ate-took t here e)) (ih (v * 16 + digitOf c) next))
     by taken.End e ih = tt
 
-number-reached : (t : List ℕ) (a : ℕ) (x : Digits) → ReachedIn t a x → ReachedBy t a (numberOf x)
-unfolding numberOf
+number-reached : (t : List ℕ) (a : ℕ) (x : Digits) → ReachedIn t a x → ReachedBy t a (scalarOf x)
+unfolding scalarOf
 number-reached t a (Value v here) p = pick-cases (ReachedBy t a) (isScalar v) _ _ (λ _. p) (λ _. tt)
 number-reached t a (Bad here) p = tt
 
 pub escaped-reached : (t : List ℕ) (c : ℕ) (here : Cursor) → ReachedBy t (here .at) (escapedOf t c here)
 unfolding escapedOf
 escaped-reached t c here =
-    pick-cases (ReachedBy t (here .at)) (eqb (letterOf c) nothing) _ _
+    pick-cases (ReachedBy t (here .at)) (eqb (letterOf c) noChar) _ _
     (λ _. pick-cases (ReachedBy t (here .at)) (eqb (digitsAfter c) 0) _ _ (λ _. tt) (λ _. number-reached t (here .at) (digitsFrom t (digitsAfter c) 0 here) (digits-reached t (digitsAfter c) 0 here)))
     (λ _. there)

@@ -20,13 +20,13 @@ use Rattle.utf8.proofs.Ranges.{within-high}
 use Rattle.classes.specs.Class.{digitOf}
 use Rattle.chars.specs.Cursors.{cursor}
 use Rattle.chars.proofs.Cursors.{ate}
-use Rattle.string_turn.specs.Escapes.{nothing, letterOf, digitsAfter}
-use Rattle.string_turn.specs.Whole.{Digits-at, whole, Whole-at, stands, itself}
+use Rattle.string_turn.specs.Escapes.{noChar, letterOf, digitsAfter}
+use Rattle.string_turn.specs.Whole.{Digits-at, wholeEscape, Whole-at, stands, itself}
 use Rattle.string_turn.specs.declared.escape.Escaped.the-variants.{Char}
 use Rattle.string_turn.proofs.escape.Ways.{Counting, counting-start, counting-done, counting-small, counting-more, digits-scalar, escapes-letter, escapes-other, escapes-number}
 
 -- ---- a scalar value is not the number that stands for none
-scalar-some : (v : ℕ) → isScalar v ≡ true → v ≡ nothing → ⊥
+scalar-some : (v : ℕ) → isScalar v ≡ true → v ≡ noChar → ⊥
 unfolding isScalar
 scalar-some v y e = not-both (rw e at y) refl
 
@@ -73,13 +73,13 @@ module _ (t : List ℕ) (from n v i : ℕ) (k : Counted t from n v i) where
 
 -- ---- the whole
 module _ (t : List ℕ) (q at c : ℕ) (b : lookAt t at ≡ look.Char 0x5C 1) (s : lookAt t (at + 1) ≡ look.Char c 1) (g : 0x20 ≤ c) {l : ℕ} (e : l ≡ letterOf c) where
-  pub whole-letter : (l ≡ nothing → ⊥) → Whole-at t q at (whole l 2)
+  pub whole-letter : (l ≡ noChar → ⊥) → Whole-at t q at (wholeEscape l 2)
   whole-letter h = stands {d = l} 0 b s g (λ p. rw (add-zero (at + 2), advanced-by-none p) (sym (escapes-letter t c (cursor (at + 2) p) e h)))
 
-  module _ (h : l ≡ nothing) {n : ℕ} (f : n ≡ digitsAfter c) where
-    pub whole-terminator : n ≡ 0 → c ≡ q → Whole-at t q at (whole q 2)
+  module _ (h : l ≡ noChar) {n : ℕ} (f : n ≡ digitsAfter c) where
+    pub whole-terminator : n ≡ 0 → c ≡ q → Whole-at t q at (wholeEscape q 2)
     whole-terminator z y = itself b (rw y at s) (rw y at g) (λ p. rw y at (sym (escapes-other t c (cursor (at + 2) p) e h f z)))
 
-    pub whole-number : (n ≡ 0 → ⊥) → {v : ℕ} → ((v ≡ nothing → ⊥) → Digits-at t (at + 2) n v) → {x : Bool} → x ≡ isScalar v → x ≡ true → Whole-at t q at (whole v (n + 2))
+    pub whole-number : (n ≡ 0 → ⊥) → {v : ℕ} → ((v ≡ noChar → ⊥) → Digits-at t (at + 2) n v) → {x : Bool} → x ≡ isScalar v → x ≡ true → Whole-at t q at (wholeEscape v (n + 2))
     whole-number z {v} k y u =
         stands {d = v} n b s g (λ p. sym (escapes-number t c (cursor (at + 2) p) e h f z (digits-scalar t n (cursor (at + 2) p) refl (k (scalar-some v (sym y ∙ u)) p) y u)))

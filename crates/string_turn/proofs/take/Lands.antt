@@ -16,9 +16,11 @@ use Rattle.chars.specs.declared.cursor.Taken.the-variants as taken
 use Rattle.chars.proofs.Cursors.{got-took, ate-took, further}
 use Rattle.literal.specs.Trace.{good}
 use Rattle.literal.proofs.Lands.{Lands}
-use Rattle.string_turn.specs.Kinds.{dollar, backslash, leftBrace, isVerbatim, isContinued, isInterpolated}
-use Rattle.string_turn.specs.Take.{isEmpty, nextIs, onTaken, endOf, dollarOf, takeOf}
-use Rattle.string_turn.specs.declared.take.State.{State}
+use Rattle.classes.specs.Marks.{dollar, backslash, leftBrace}
+use Rattle.string_turn.specs.Escapes.{onTaken}
+use Rattle.string_turn.specs.Kinds.{isVerbatim, isContinued, isInterpolated}
+use Rattle.string_turn.specs.Take.{isEmpty, nextIs, inputEnd, dollarOf, takeOf}
+use Rattle.string_turn.specs.declared.take.Scanning.{Scanning}
 use Rattle.string_turn.specs.declared.take.Last.{Last}
 use Rattle.string_turn.specs.declared.take.Last.the-variants.{Good, Bad}
 use Rattle.string_turn.specs.declared.take.Got.{Got}
@@ -35,8 +37,8 @@ Got-lands t at (got.Char c here) = (at < here .at) × (here .at ≤ length t)
 Got-lands t at (got.Over last) = Last-lands t at last
 
 module _ (t : List ℕ) (q : ℕ) (start : Position) where
-  pub end-lands : (at : ℕ) (s : State) → Last-lands t at (endOf q start at s)
-  unfolding endOf
+  pub end-lands : (at : ℕ) (s : Scanning) → Last-lands t at (inputEnd q start at s)
+  unfolding inputEnd
   end-lands at s = pick-cases (Last-lands t at) (either (isVerbatim q) (both (isContinued q) (isnt (isEmpty (s .escape))))) _ _ (λ y. (omega arith, λ h. h, λ z. absurd (omega arith))) (λ n. tt)
 
   dollar-lands : (at c : ℕ) (here : Cursor) (first : Position) → at < here .at → here .at ≤ length t → Got-lands t at (dollarOf t c here first)
@@ -53,12 +55,12 @@ module _ (t : List ℕ) (q : ℕ) (start : Position) where
           pick-cases (Got-lands t at) (both (eqb d dollar) (nextIs t (next .at) leftBrace)) _ _ (λ y. (omega (arith, k .0), k .1)) (λ y. (f, l))
       by taken.End e = (f, l)
 
-  pub take-lands : (at : ℕ) (s : State) → Got-lands t at (takeOf t q start at s)
+  pub take-lands : (at : ℕ) (s : Scanning) → Got-lands t at (takeOf t q start at s)
   unfolding takeOf
   take-lands at s = by (eatNextOf t (cursor at (s .place))) refl
     where
       by : (x : Taken) → eatNextOf t (cursor at (s .place)) ≡ x
-          → Got-lands t at (onTaken x (λ c here. pick (both (isInterpolated q) (isEmpty (s .escape))) (dollarOf t c here (s .first)) (got.Char c here)) (got.Over (endOf q start at s)))
+          → Got-lands t at (onTaken x (λ c here. pick (both (isInterpolated q) (isEmpty (s .escape))) (dollarOf t c here (s .first)) (got.Char c here)) (got.Over (inputEnd q start at s)))
       by (taken.Char c here) e =
           let k = further t at (advanced (s .place)) (ate-took t (cursor at (s .place)) e) in
           pick-cases (Got-lands t at) (both (isInterpolated q) (isEmpty (s .escape))) _ _ (λ y. dollar-lands at c here (s .first) (k .0) (k .1)) (λ y. k)

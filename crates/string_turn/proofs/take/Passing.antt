@@ -17,20 +17,21 @@ use Rattle.utf8.proofs.Laws.{at-width}
 use Rattle.chars.specs.Stretch as stretch
 use Rattle.chars.specs.Stretch.{Stretch}
 use Rattle.chars.proofs.Stretches.{stretch-low, stretch-within, one-more}
-use Rattle.string_turn.specs.Kinds.{lf, cr, dollar, backslash, backtick, leftBrace, isVerbatim}
+use Rattle.classes.specs.Marks.{lf, cr, dollar, backslash, backtick, leftBrace}
+use Rattle.string_turn.specs.Kinds.{isVerbatim}
 use Rattle.string_turn.specs.Take.{nextIs}
-use Rattle.string_turn.specs.Passing.{Plain, Added, feed, lone, sign, slash, placeBehind, stood, Passes, none, some, one, then}
+use Rattle.string_turn.specs.Passing.{Plain, Added, feed, lone, sign, slash, placeBehind, stood, StringPasses, none, some, one, then}
 use Rattle.string_turn.specs.declared.take.Stood.{Stood}
 
 -- ---- what was passed goes on, within the text
 module _ {t : List ℕ} {q : ℕ} where
-  pub passes-low : {u r : Stood} → Passes t q u r → u .at ≤ r .at
+  pub passes-low : {u r : Stood} → StringPasses t q u r → u .at ≤ r .at
   passes-low none = omega arith
   passes-low (some x y) = omega (arith, stretch-low x)
   passes-low (one y e a) = omega arith
   passes-low (then x y) = omega (arith, passes-low x, passes-low y)
 
-  pub passes-within : {u r : Stood} → Passes t q u r → u .at < r .at → r .at ≤ length t
+  pub passes-within : {u r : Stood} → StringPasses t q u r → u .at < r .at → r .at ≤ length t
   passes-within none h = absurd (omega arith)
   passes-within (some x y) h = stretch-within x h
   passes-within (one {u} y e a) h = at-width t (u .at) e .1
@@ -39,7 +40,7 @@ module _ {t : List ℕ} {q : ℕ} where
 
 -- ---- a stretch
 pub passed : (t : List ℕ) (q : ℕ) (from : Stood) {k b : ℕ} → Stretch t (Plain q) (from .at) k b → (k ≡ 0 → ⊥)
-    → {p u f : Position} → p ≡ advancedBy k (from .place) → u ≡ advanced (from .place) → f ≡ orElse (from .first) u → Passes t q from (stood b p f)
+    → {p u f : Position} → p ≡ advancedBy k (from .place) → u ≡ advanced (from .place) → f ≡ orElse (from .first) u → StringPasses t q from (stood b p f)
 passed t q from x n g m h = rw (g, h, m) (some x n)
 
 -- ---- one byte
@@ -49,7 +50,7 @@ is-plain q c a b d e f = rw (ne-eqb c q a, ne-eqb c backslash b, ne-eqb c dollar
 
 module _ (t : List ℕ) (q : ℕ) (from : Stood) (h : from .at < length t) where
   pub byte-passed : {v : Bool} → (v ≡ true → (getD t (from .at) 0 < 0x80) × Plain q (getD t (from .at) 0)) → v ≡ true
-      → {p u f : Position} → p ≡ advancedBy 1 (from .place) → u ≡ advanced (from .place) → f ≡ orElse (from .first) u → Passes t q from (stood (from .at + 1) p f)
+      → {p u f : Position} → p ≡ advancedBy 1 (from .place) → u ≡ advanced (from .place) → f ≡ orElse (from .first) u → StringPasses t q from (stood (from .at + 1) p f)
   byte-passed y w g m n =
       let a = y w in
       passed t q from (one-more {k = 0} stretch.none (sym (look-ascii t (from .at) h 1 (a .0) refl)) (a .1) refl) (λ e. omega (arith, e)) g m n
@@ -81,13 +82,13 @@ added-low (slash e) = omega arith
 
 module _ (t : List ℕ) (from : Stood) (h : from .at < length t) where
   pub one-passed : {v : Bool} → (v ≡ true → Added t (from .at + 1) (getD t (from .at) 0)) → v ≡ true
-      → {p u f : Position} → p ≡ placeBehind (getD t (from .at) 0) (from .place) → u ≡ advanced (from .place) → f ≡ orElse (from .first) u → Passes t backtick from (stood (from .at + 1) p f)
+      → {p u f : Position} → p ≡ placeBehind (getD t (from .at) 0) (from .place) → u ≡ advanced (from .place) → f ≡ orElse (from .first) u → StringPasses t backtick from (stood (from .at + 1) p f)
   one-passed y w g m n =
       let a = y w in
       rw (g, n, m) (one refl (sym (look-ascii t (from .at) h 1 (added-low a) refl)) a)
 
 -- ---- in text both, one behind the other
-pub in-text : {t : List ℕ} {q : ℕ} {u v r : Stood} {b : Bool} → b ≡ isVerbatim q → b ≡ true → Passes t q u v → Passes t backtick v r → Passes t q u r
+pub in-text : {t : List ℕ} {q : ℕ} {u v r : Stood} {b : Bool} → b ≡ isVerbatim q → b ≡ true → StringPasses t q u v → StringPasses t backtick v r → StringPasses t q u r
 unfolding isVerbatim
 in-text {q = q} {v = v} {r = r} e h x y =
     let k : q ≡ backtick = eqb-true q backtick (sym e ∙ h) in

@@ -15,10 +15,12 @@ use Rattle.chars.specs.declared.cursor.Taken.{Taken}
 use Rattle.chars.specs.declared.cursor.Taken.the-variants as taken
 use Rattle.chars.proofs.Cursors.{got-took, ate-took}
 use Rattle.chars.proofs.Reaches.{Further, further-on, took-reached, took-further}
-use Rattle.string_turn.specs.Kinds.{dollar, backslash, leftBrace, isVerbatim, isContinued, isInterpolated}
+use Rattle.classes.specs.Marks.{dollar, backslash, leftBrace}
+use Rattle.string_turn.specs.Escapes.{onTaken}
+use Rattle.string_turn.specs.Kinds.{isVerbatim, isContinued, isInterpolated}
 use Rattle.string_turn.specs.Endings.{unterminatedAt}
-use Rattle.string_turn.specs.Take.{isEmpty, nextIs, onTaken, endOf, dollarOf, takeOf}
-use Rattle.string_turn.specs.declared.take.State.{State}
+use Rattle.string_turn.specs.Take.{isEmpty, nextIs, inputEnd, dollarOf, takeOf}
+use Rattle.string_turn.specs.declared.take.Scanning.{Scanning}
 use Rattle.string_turn.specs.declared.take.Last.{Last}
 use Rattle.string_turn.specs.declared.take.Last.the-variants.{Good, Bad}
 use Rattle.string_turn.specs.declared.take.Got.{Got}
@@ -38,8 +40,8 @@ pub unterminated-fair : (start : Position) (here : Cursor) → Fair (Bad (unterm
 unfolding unterminatedAt
 unterminated-fair start here = (λ e. omega arith, λ e. omega arith, λ e. omega arith)
 
-pub end-fair : (q : ℕ) (start : Position) (at : ℕ) (s : State) → Fair (endOf q start at s)
-unfolding endOf
+pub end-fair : (q : ℕ) (start : Position) (at : ℕ) (s : Scanning) → Fair (inputEnd q start at s)
+unfolding inputEnd
 end-fair q start at s =
     pick-cases Fair (either (isVerbatim q) (both (isContinued q) (isnt (isEmpty (s .escape))))) _ _ (λ _. tt)
     (λ _. unterminated-fair start (cursor at (advanced (s .place))))
@@ -60,12 +62,12 @@ module _ (t : List ℕ) where
           (λ _. f)
       by taken.End e = f
 
-  pub take-gets : (q : ℕ) (start : Position) (at : ℕ) (s : State) → Gets t at (takeOf t q start at s)
+  pub take-gets : (q : ℕ) (start : Position) (at : ℕ) (s : Scanning) → Gets t at (takeOf t q start at s)
   unfolding takeOf
   take-gets q start at s = by (eatNextOf t (cursor at (s .place))) refl
     where
       by : (x : Taken) → eatNextOf t (cursor at (s .place)) ≡ x
-          → Gets t at (onTaken x (λ c here. pick (both (isInterpolated q) (isEmpty (s .escape))) (dollarOf t c here (s .first)) (got.Char c here)) (got.Over (endOf q start at s)))
+          → Gets t at (onTaken x (λ c here. pick (both (isInterpolated q) (isEmpty (s .escape))) (dollarOf t c here (s .first)) (got.Char c here)) (got.Over (inputEnd q start at s)))
       by (taken.Char c here) e =
           let f : Further t at (here .at) = took-further (ate-took t (cursor at (s .place)) e) in
           pick-cases (Gets t at) (both (isInterpolated q) (isEmpty (s .escape))) _ _

@@ -15,10 +15,12 @@ use Rattle.chars.specs.declared.cursor.Cursor.{Cursor}
 use Rattle.chars.specs.declared.cursor.Taken.{Taken}
 use Rattle.chars.specs.declared.cursor.Taken.the-variants as taken
 use Rattle.chars.proofs.Small.{In, Taken-in, got-in, ate-in}
-use Rattle.string_turn.specs.Kinds.{dollar, backslash, leftBrace, isVerbatim, isContinued, isInterpolated}
+use Rattle.classes.specs.Marks.{dollar, backslash, leftBrace}
+use Rattle.string_turn.specs.Escapes.{onTaken}
+use Rattle.string_turn.specs.Kinds.{isVerbatim, isContinued, isInterpolated}
 use Rattle.string_turn.specs.Endings.{unterminatedAt}
-use Rattle.string_turn.specs.Take.{isEmpty, nextIs, onTaken, endOf, dollarOf, takeOf}
-use Rattle.string_turn.specs.declared.take.State.{State}
+use Rattle.string_turn.specs.Take.{isEmpty, nextIs, inputEnd, dollarOf, takeOf}
+use Rattle.string_turn.specs.declared.take.Scanning.{Scanning}
 use Rattle.string_turn.specs.declared.take.Last.{Last}
 use Rattle.string_turn.specs.declared.take.Last.the-variants.{Good, Bad}
 use Rattle.string_turn.specs.declared.take.Got.{Got}
@@ -37,8 +39,8 @@ module _ (t : List ℕ) where
   unfolding unterminatedAt
   unterminated-small start here h = fault-tells (length t) 4 (omega arith) h
 
-  pub end-small : (q : ℕ) (start : Position) (at : ℕ) (s : State) → Small start → Small (s .place) → Last-small (endOf q start at s)
-  unfolding endOf
+  pub end-small : (q : ℕ) (start : Position) (at : ℕ) (s : Scanning) → Small start → Small (s .place) → Last-small (inputEnd q start at s)
+  unfolding inputEnd
   end-small q start at s h k =
       pick-cases Last-small (either (isVerbatim q) (both (isContinued q) (isnt (isEmpty (s .escape))))) _ _ (λ _. advanced-small k)
       (λ _. unterminated-small start (cursor at (advanced (s .place))) h)
@@ -55,11 +57,11 @@ module _ (t : List ℕ) where
       by (taken.Char d next) k = pick-cases Got-small (both (eqb d dollar) (nextIs t (next .at) leftBrace)) _ _ (λ _. k) (λ _. h)
       by taken.End k = h
 
-  pub take-small : (q : ℕ) (start : Position) (at : ℕ) (s : State) → Small start → Small (s .place) → Got-small (takeOf t q start at s)
+  pub take-small : (q : ℕ) (start : Position) (at : ℕ) (s : Scanning) → Small start → Small (s .place) → Got-small (takeOf t q start at s)
   unfolding takeOf
   take-small q start at s h k = by (eatNextOf t (cursor at (s .place))) (ate-in t (cursor at (s .place)) k)
     where
       by : (x : Taken) → Taken-in t x
-          → Got-small (onTaken x (λ c here. pick (both (isInterpolated q) (isEmpty (s .escape))) (dollarOf t c here (s .first)) (got.Char c here)) (got.Over (endOf q start at s)))
+          → Got-small (onTaken x (λ c here. pick (both (isInterpolated q) (isEmpty (s .escape))) (dollarOf t c here (s .first)) (got.Char c here)) (got.Over (inputEnd q start at s)))
       by (taken.Char c here) i = pick-cases Got-small (both (isInterpolated q) (isEmpty (s .escape))) _ _ (λ _. dollar-small c here (s .first) i) (λ _. i)
       by taken.End i = end-small q start at s h k

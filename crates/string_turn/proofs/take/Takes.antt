@@ -2,33 +2,29 @@
 use Prim.Native.Nat.{ℕ}
 use mathlib.Core.Bool.{Bool, true, false}
 use mathlib.Core.List.{List}
-use mathlib.Core.Path.{_≡_, refl, sym, _∙_}
+use mathlib.Core.Path.{_≡_, sym, _∙_}
 use borrow.Author.Tests.{eq-eqb, ne-eqb}
 use Rattle.position.specs.declared.Position.{Position}
 use Rattle.position.specs.Place.{advanced}
-use Rattle.fault.specs.Faults.{unterminatedString}
 use Rattle.chars.specs.Cursors.{cursor, getNextOf, eatNextOf}
 use Rattle.chars.specs.declared.cursor.Cursor.{Cursor}
 use Rattle.chars.specs.declared.cursor.Taken.{Taken}
 use Rattle.chars.specs.declared.cursor.Taken.the-variants as taken
-use Rattle.string_turn.specs.Kinds.{dollar, backslash, leftBrace, isVerbatim, isContinued, isInterpolated}
-use Rattle.string_turn.specs.Endings.{once, clear, ending, refusal, unterminatedAt}
-use Rattle.string_turn.specs.Take.{isEmpty, nextIs, endOf, dollarOf, takeOf}
-use Rattle.string_turn.specs.declared.take.State.{State}
+use Rattle.classes.specs.Marks.{dollar, backslash, leftBrace}
+use Rattle.literal.specs.Answers.{once, nothing, ending}
+use Rattle.string_turn.specs.Kinds.{isVerbatim, isContinued, isInterpolated}
+use Rattle.string_turn.specs.Endings.{unterminatedAt}
+use Rattle.string_turn.specs.Take.{isEmpty, nextIs, inputEnd, dollarOf, takeOf}
+use Rattle.string_turn.specs.declared.take.Scanning.{Scanning}
 use Rattle.string_turn.specs.declared.take.Last.{Last}
 use Rattle.string_turn.specs.declared.take.Last.the-variants.{Good, Bad}
 use Rattle.string_turn.specs.declared.take.Got.{Got}
 use Rattle.string_turn.specs.declared.take.Got.the-variants as got
 
--- 4, written out
-pub unterminated-is : (start : Position) (here : Cursor) → refusal (unterminatedString start) here clear ≡ unterminatedAt start here
-unfolding unterminatedAt
-unterminated-is start here = refl
-
 module _ (t : List ℕ) (c : ℕ) (here : Cursor) (first : Position) where
   -- `$`
   module _ (d : c ≡ dollar) {b : Bool} (n : b ≡ nextIs t (here .at) leftBrace) where
-    pub dollar-ends : b ≡ true → got.Over (Good (ending here first clear true)) ≡ dollarOf t c here first
+    pub dollar-ends : b ≡ true → got.Over (Good (ending here first nothing true)) ≡ dollarOf t c here first
     unfolding dollarOf
     dollar-ends y = rw (eq-eqb c dollar d, sym n ∙ y)
 
@@ -61,28 +57,28 @@ module _ (t : List ℕ) (c : ℕ) (here : Cursor) (first : Position) where
   no-dollar d s = rw (ne-eqb c dollar d, ne-eqb c backslash s)
 
 -- the end of input
-module _ (q : ℕ) (start : Position) (at : ℕ) (s : State) {p : Position} (m : p ≡ advanced (s .place)) {v : Bool} (e : v ≡ isVerbatim q) where
-  pub text-open : v ≡ true → {r : Last} → r ≡ Good (ending (cursor at p) (s .first) (once q) false) → r ≡ endOf q start at s
-  unfolding endOf
+module _ (q : ℕ) (start : Position) (at : ℕ) (s : Scanning) {p : Position} (m : p ≡ advanced (s .place)) {v : Bool} (e : v ≡ isVerbatim q) where
+  pub text-open : v ≡ true → {r : Last} → r ≡ Good (ending (cursor at p) (s .first) (once q) false) → r ≡ inputEnd q start at s
+  unfolding inputEnd
   text-open y k = rw (k, sym e ∙ y, m)
 
   module _ (n : v ≡ false) {b : Bool} (o : b ≡ isContinued q) where
     module _ (y : b ≡ true) {f : Bool} (g : f ≡ isEmpty (s .escape)) where
-      pub ordinary-cut : f ≡ true → {r : Last} → r ≡ Bad (unterminatedAt start (cursor at p)) → r ≡ endOf q start at s
-      unfolding endOf
+      pub ordinary-cut : f ≡ true → {r : Last} → r ≡ Bad (unterminatedAt start (cursor at p)) → r ≡ inputEnd q start at s
+      unfolding inputEnd
       ordinary-cut h k = rw (k, sym e ∙ n, sym o ∙ y, sym g ∙ h, m)
 
-      pub ordinary-open : f ≡ false → {r : Last} → r ≡ Good (ending (cursor at p) (s .first) (once q) false) → r ≡ endOf q start at s
-      unfolding endOf
+      pub ordinary-open : f ≡ false → {r : Last} → r ≡ Good (ending (cursor at p) (s .first) (once q) false) → r ≡ inputEnd q start at s
+      unfolding inputEnd
       ordinary-open h k = rw (k, sym e ∙ n, sym o ∙ y, sym g ∙ h, m)
 
-    pub other-cut : b ≡ false → {r : Last} → r ≡ Bad (unterminatedAt start (cursor at p)) → r ≡ endOf q start at s
-    unfolding endOf
+    pub other-cut : b ≡ false → {r : Last} → r ≡ Bad (unterminatedAt start (cursor at p)) → r ≡ inputEnd q start at s
+    unfolding inputEnd
     other-cut y k = rw (k, sym e ∙ n, sym o ∙ y, m)
 
 -- a character
-module _ (t : List ℕ) (q : ℕ) (start : Position) (at : ℕ) (s : State) {x : Taken} (g : x ≡ eatNextOf t (cursor at (s .place))) where
-  pub takes-none : x ≡ taken.End → {l : Last} → l ≡ endOf q start at s → got.Over l ≡ takeOf t q start at s
+module _ (t : List ℕ) (q : ℕ) (start : Position) (at : ℕ) (s : Scanning) {x : Taken} (g : x ≡ eatNextOf t (cursor at (s .place))) where
+  pub takes-none : x ≡ taken.End → {l : Last} → l ≡ inputEnd q start at s → got.Over l ≡ takeOf t q start at s
   unfolding takeOf
   takes-none e k = rw (k, sym g ∙ e)
 

@@ -40,11 +40,11 @@ add-byte-spec =
     tie.close
     (tie.spec
     (λ c start. stays _ _ _ _ _ _ _ (c .before .before .before .pre .1))
-    (λ c κs. c .before .before .before .before .before .pre .1)
-    (λ c start. stays _ _ _ _ _ _ _ (c .before .before .before .before .before .before .before .pre .1))
+    (λ c κs. let entry = c .before .before .before .before .before in entry .pre .1)
+    (λ c start. let entry = c .before .before .before .before .before .before .before in stays _ _ _ _ _ _ _ (entry .pre .1))
     (λ c κs. search needs)
     (λ c κs. passes-within (c .before .pass-byte .ensures .0))
-    (λ c. low (c .before .before .before .before .before .before))
-    (λ c. omega (arith, returns-3 c start .within, begin (c .before .before .before .before .before .before) .good))
+    (λ c. let call = c .before .before .before .before .before .before in low call)
+    (λ c. let call = c .before .before .before .before .before .before in omega (arith, returns-3 c start .within, begin call .good))
     (λ c. returns-3 c start .same)
     returns-3)

@@ -36,11 +36,11 @@ pub add-stretch-spec : {M : Type 1} → statement M
 add-stretch-spec =
     tie.close
     (tie.spec
-    (λ c start. stays _ _ _ _ _ _ _ (c .before .before .before .before .pre .1))
-    (λ c κs. c .before .before .before .before .before .before .pre .1)
-    (λ c κs. terminates (c .before .before .before .before .before .before .before .pre .0) .low)
+    (λ c start. let entry = c .before .before .before .before in stays _ _ _ _ _ _ _ (entry .pre .1))
+    (λ c κs. let entry = c .before .before .before .before .before .before in entry .pre .1)
+    (λ c κs. let entry = c .before .before .before .before .before .before .before in terminates (entry .pre .0) .low)
     (λ c κs. passes-within (c .before .pass .ensures .0))
-    (λ c. low (c .before .before .before .before .before .before))
-    (λ c. omega (arith, returns-2 c start .within, begin (c .before .before .before .before .before .before) .good))
+    (λ c. let call = c .before .before .before .before .before .before in low call)
+    (λ c. let call = c .before .before .before .before .before .before in omega (arith, returns-2 c start .within, begin call .good))
     (λ c. returns-2 c start .same)
     returns-2)

@@ -4,8 +4,8 @@ use native.Mathlib.Omega.{arith}
 use mathlib.Core.Path.{sym, _∙_}
 use borrow.Author.Needs.{needs}
 use Rattle.string.specs.Limited.{GoesOn}
-use Rattle.string.specs.Standing.{Leads}
-use Rattle.string.specs.Units.{stateOf, standOf, behindOf}
+use Rattle.string.specs.Standing.{ScanLeads}
+use Rattle.string.specs.Units.{clearState, standOf, unitBehind}
 use Rattle.string.specs.declared.scan.Clear.{Clear}
 use Rattle.string.specs.declared.scan.Unit.{Unit}
 use Rattle.string.proofs.scan.Leading.{clear, stays, leads-then, adds-on}
@@ -29,7 +29,7 @@ module _ (c : tie.Else3) where
   abbrev begin : tie.Start
   begin = over .before .before .before .before
 
-  goes : GoesOn (begin .args .limit) (begin .args .here .n) (begin .args .text .now) (begin .args .q) (begin .args .start) (begin .args .here .at) (stateOf (begin .args .here)) (call .unit-at .result .c) (begin .args .here .at + call .unit-at .result .width) (behindOf (begin .args .here) (call .unit-at .result))
+  goes : GoesOn (begin .args .limit) (begin .args .here .n) (begin .args .text .now) (begin .args .q) (begin .args .start) (begin .args .here .at) (clearState (begin .args .here)) (call .unit-at .result .c) (begin .args .here .at + call .unit-at .result .width) (unitBehind (begin .args .here) (call .unit-at .result))
   goes = call .unit-at .ensures (some .if2 .left) (begin .args .limit) (sym (over .before .is-over .ensures) ∙ over .if1 .left)
 
 -- behind the unit
@@ -49,7 +49,7 @@ module _ (k : tie.After-struct-known3) where
   abbrev unit : Unit
   unit = call left .unit-at .result
 
-  leads : Leads (begin left .args .text .now) (begin left .args .q) (begin left .args .start) (begin left .args .limit) (begin left .args .room) (standOf here) (begin left .args .out .now)
+  leads : ScanLeads (begin left .args .text .now) (begin left .args .q) (begin left .args .start) (begin left .args .limit) (begin left .args .room) (standOf here) (begin left .args .out .now)
       (standOf (clear (here .at + unit .width) (unit .place) (column .or-else .result) (unit .skip) (here .n + sized left .size .result))) (written .put .last .1 .0)
   leads =
       adds-on _ _ _ _ _ here unit (begin left .pre .1) (call left .unit-at .ensures (some left .if2 .left)) (sym (over left .before .is-over .ensures) ∙ over left .if1 .left)
@@ -66,12 +66,12 @@ add-unit-spec =
     tie.close
     (tie.spec
     (λ c κs. search needs)
-    (λ c. stays _ _ _ _ _ _ _ (c .before .before .before .before .pre .1))
-    (λ c κs. c .before .before .before .before .pre .0)
-    (λ c. stays _ _ _ _ _ _ _ (c .before .before .before .before .before .before .before .pre .1))
+    (λ c. let entry = c .before .before .before .before in stays _ _ _ _ _ _ _ (entry .pre .1))
+    (λ c κs. let entry = c .before .before .before .before in entry .pre .0)
+    (λ c. let entry = c .before .before .before .before .before .before .before in stays _ _ _ _ _ _ _ (entry .pre .1))
     (λ c κs. search needs)
-    (λ c. c .before .before .before .before .before .before .before .before .pre .1)
-    (λ c. stays _ _ _ _ _ _ _ (c .before .before .before .before .before .before .before .before .before .pre .1))
+    (λ c. let entry = c .before .before .before .before .before .before .before .before in entry .pre .1)
+    (λ c. let entry = c .before .before .before .before .before .before .before .before .before in stays _ _ _ _ _ _ _ (entry .pre .1))
     (λ c κs. search needs)
     (λ c κs. search needs)
     (λ c κs. search needs)

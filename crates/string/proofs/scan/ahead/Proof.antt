@@ -3,7 +3,7 @@ use Prim.Native.Nat.{ℕ, _-_, _<_}
 use native.Mathlib.Omega.{arith}
 use mathlib.Core.List.{List}
 use lib.ListN.{length}
-use Rattle.string.specs.Standing.{Leads}
+use Rattle.string.specs.Standing.{ScanLeads}
 use Rattle.string.specs.Units.{standOf}
 use Rattle.string.specs.declared.scan.Clear.{Clear}
 use Rattle.string.proofs.scan.Leading.{stays, leads-then}
@@ -11,7 +11,7 @@ use Rattle.string.proofs.scan.ahead.Statement.{statement}
 use Rattle.string.proofs.scan.ahead.Tie as tie
 
 abbrev Inv-loop : tie.InvT-loop
-Inv-loop text q start limit room out₀ here₀ out here = Leads text q start limit room (standOf here₀) out₀ (standOf here) out
+Inv-loop text q start limit room out₀ here₀ out here = ScanLeads text q start limit room (standOf here₀) out₀ (standOf here) out
 
 abbrev μ-loop : tie.MeasureT-loop
 μ-loop text q start limit room out₀ here₀ out here = length text - here .at
@@ -30,7 +30,7 @@ module _ (k : tie.After-add-unit Inv-loop μ-loop) where
   abbrev memory : List ℕ
   memory = k .add-unit .last .1 .1 .1 .1 .1 .1 .0
 
-  leads : Leads (begin .args .text .now) (begin .args .q) (begin .args .start) (begin .args .limit) (begin .args .room) (standOf (begin .args .from)) (begin .args .out .now) (standOf next) memory
+  leads : ScanLeads (begin .args .text .now) (begin .args .q) (begin .args .start) (begin .args .limit) (begin .args .room) (standOf (begin .args .from)) (begin .args .out .now) (standOf next) memory
   leads = leads-then _ _ _ _ _ (top .loop .inv) (k .add-unit .ensures)
 
 -- and behind a stretch
@@ -44,7 +44,7 @@ module _ (s : tie.After-add-stretch Inv-loop μ-loop) where
   abbrev held : List ℕ
   held = s .add-stretch .last .1 .1 .1 .1 .1 .0
 
-  further : Leads (begin unit .args .text .now) (begin unit .args .q) (begin unit .args .start) (begin unit .args .limit) (begin unit .args .room) (standOf (begin unit .args .from)) (begin unit .args .out .now) (standOf last) held
+  further : ScanLeads (begin unit .args .text .now) (begin unit .args .q) (begin unit .args .start) (begin unit .args .limit) (begin unit .args .room) (standOf (begin unit .args .from)) (begin unit .args .out .now) (standOf last) held
   further = leads-then _ _ _ _ _ (leads unit) (s .add-stretch .ensures (begin unit .args .start))
 
 loop-less : tie.Need-loop-less Inv-loop μ-loop
@@ -69,11 +69,11 @@ ahead-spec =
     Inv-loop
     μ-loop
     (λ c. stays _ _ _ _ _ _ _ (c .before .before .pre .1))
-    (λ c κs. (c .before .before .before .before .pre .0, c .before .loop .inv .within))
+    (λ c κs. let entry = c .before .before .before .before in (entry .pre .0, c .before .loop .inv .within))
     (λ c κs. let k = c .before .before .before .before .before .before in (begin k .pre .0, leads k .within))
-    (λ c. further (c .before .before .before .before .before) .same)
-    (λ c. further (c .before .before .before .before .before))
+    (λ c. let call = c .before .before .before .before .before in further call .same)
+    (λ c. let call = c .before .before .before .before .before in further call)
     loop-less
-    (λ c. further (c .before .before .before .before .before))
+    (λ c. let call = c .before .before .before .before .before in further call)
     loop-less-2
-    (λ c. leads (c .before .before .before .before .before)))
+    (λ c. let call = c .before .before .before .before .before in leads call))

@@ -32,11 +32,11 @@ lead-spec =
     (tie.spec
     (λ c κs. search needs)
     (λ c. search needs)
-    (λ c. stays _ _ _ _ _ _ _ (c .before .before .before .before .before .before .before .pre))
+    (λ c. let begin = c .before .before .before .before .before .before .before in stays _ _ _ _ _ _ _ (begin .pre))
     (λ c. search needs)
     (λ c κs. search needs)
     ahead-requires
     (λ c κs. search needs)
     (λ c. returns-2 c .same)
     returns-2
-    (λ c. stays _ _ _ _ _ _ _ (c .before .before .before .before .pre)))
+    (λ c. let begin = c .before .before .before .before in stays _ _ _ _ _ _ _ (begin .pre)))

@@ -6,7 +6,7 @@ use mathlib.Core.Path.{refl}
 use lib.ListN.{length}
 use borrow.Author.Needs.{needs}
 use Rattle.string.specs.Standing.{Measured, Written}
-use Rattle.string.specs.declared.scan.Stand.{Stand}
+use Rattle.string.specs.declared.scan.ScanStand.{ScanStand}
 use Rattle.string.proofs.scan.Measuring.{measured-start, measured-over, measured-full, measured-less, measured-more}
 use Rattle.string.proofs.scan.Writing.{written-start, written-more, written-over, full-kept}
 use Rattle.string.proofs.scan.scan.Statement.{statement}
@@ -26,7 +26,7 @@ module _ (k : tie.After-lead Inv-loop μ-loop) where
   abbrev begin : tie.Start Inv-loop μ-loop
   begin = top .before .before .before .before .before
 
-  abbrev there : Stand
+  abbrev there : ScanStand
   there = k .lead .result
 
   abbrev memory : List ℕ
@@ -64,8 +64,8 @@ returns-2 : tie.Need-returns-2 Inv-loop μ-loop
 returns-2 c =
     let size = c .before .before in
     let k = read (turned size) in (
-      measured-full _ _ _ _ _ (stands k) (turned size .turn .ensures) (found size .d .given .1) (size .size .ensures) (c .before .if1 .taken) (c .full .ensures),
-      full-kept _ _ _ (c .full .ensures),
+      measured-full _ _ _ _ _ (stands k) (turned size .turn .ensures) (found size .d .given .1) (size .size .ensures) (c .before .if1 .taken) (c .as-given .ensures),
+      full-kept _ _ _ (c .as-given .ensures),
     )
 
 add-n : tie.Need-add-n Inv-loop μ-loop

@@ -22,7 +22,7 @@ sign-spec =
     (tie.spec
     (λ c. omega (arith, c .before .before .pre .inside))
     (λ c κs. search needs)
-    (λ c. omega (arith, c .before .before .before .before .before .pre .inside))
+    (λ c. let begin = c .before .before .before .before .before in omega (arith, begin .pre .inside))
     (λ c κs. search needs)
     (λ c κs. search needs)
     returns

@@ -1,12 +1,10 @@
 -- What the call answers is the definition, and a column is at most 65,535.
 use native.Mathlib.Omega.{arith}
 use borrow.Author.Needs.{needs}
-use Rattle.string_turn.specs.Act.{columnOf}
 use Rattle.string_turn.proofs.act.column.Statement.{statement}
 use Rattle.string_turn.proofs.act.column.Tie as tie
 
 returns : tie.Need-returns
-unfolding columnOf
 returns c = (rw (c .column-number .ensures), omega arith)
 
 pub column-spec : {M : Type 1} → statement M

@@ -6,10 +6,11 @@ use Rattle.string_turn.proofs.act.malformed.Tie as tie
 
 returns : tie.Need-returns
 unfolding malformedAt
-returns c = rw (c .between .ensures)
+returns c = rw (c .about .ensures, c .before .between .ensures)
 
 pub malformed-spec : {M : Type 1} → statement M
 malformed-spec = tie.close
     (tie.spec
+    (λ c κs. search needs)
     (λ c κs. search needs)
     returns)

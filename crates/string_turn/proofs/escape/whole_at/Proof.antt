@@ -33,8 +33,8 @@ whole-at-spec =
     (λ c. search needs)
     (λ c. none)
     (λ c. omega (arith, c .if3 .left))
-    (λ c. omega (arith, c .before .if3 .left, c .before .before .before .before .if1 .left))
-    (λ c. omega (arith, c .shared-slice-known3 .given (c .before .before .before .before .before .before .args .at + 1)))
+    (λ c. let near = c .before .before .before .before in omega (arith, c .before .if3 .left, near .if1 .left))
+    (λ c. let begin = c .before .before .before .before .before .before in omega (arith, c .shared-slice-known3 .given (begin .args .at + 1)))
     (λ c. none)
     (λ c. none)
     whole-of-requires

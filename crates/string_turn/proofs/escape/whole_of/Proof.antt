@@ -40,9 +40,9 @@ whole-of-spec =
     (λ c. search needs)
     returns-2
     (λ c. none)
-    (λ c. omega (arith, c .before .before .before .before .before .pre .0))
+    (λ c. let begin = c .before .before .before .before .before in omega (arith, begin .pre .0))
     (λ c κs. c .before .digits-after .ensures .1)
     (λ c κs. search needs)
-    (λ c. omega (arith, c .before .before .before .before .digits-after .ensures .1))
+    (λ c. let digits = c .before .before .before .before in omega (arith, digits .digits-after .ensures .1))
     returns-4
     (λ c. none))

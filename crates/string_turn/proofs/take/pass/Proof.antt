@@ -27,7 +27,7 @@ pass-spec =
     (λ c. (none, omega arith))
     (λ c κs. search needs)
     (λ c κs. search needs)
-    (λ c. low (c .before .before .before .before))
+    (λ c. let call = c .before .before .before .before in low call)
     (λ c. let k = c .before .before .before .before in omega (arith, low k, k .stretch .ensures .1))
     (λ c κs. search needs)
     returns-2

@@ -3,14 +3,14 @@ use Prim.Native.Nat.{_+_, _≤_}
 use native.Mathlib.Omega.{arith}
 use mathlib.Core.Path.{_≡_, refl}
 use borrow.Author.Needs.{needs}
-use Rattle.string_turn.specs.Kinds.{backtick}
-use Rattle.string_turn.specs.Passing.{Passes, none, then}
+use Rattle.classes.specs.Marks.{backtick}
+use Rattle.string_turn.specs.Passing.{StringPasses, none, then}
 use Rattle.string_turn.proofs.take.Passing.{passes-low}
 use Rattle.string_turn.proofs.take.pass_added.Statement.{statement}
 use Rattle.string_turn.proofs.take.pass_added.Tie as tie
 
 abbrev Inv-loop : tie.InvT-loop
-Inv-loop text most here₀ left₀ here left = Passes text backtick here₀ here × (here .at + left ≡ here₀ .at + most)
+Inv-loop text most here₀ left₀ here left = StringPasses text backtick here₀ here × (here .at + left ≡ here₀ .at + most)
 
 abbrev μ-loop : tie.MeasureT-loop
 μ-loop text most here₀ left₀ here left = left

@@ -3,14 +3,14 @@ use Prim.Native.Nat.{_+_, _-_, _≤_}
 use native.Mathlib.Omega.{arith}
 use mathlib.Core.Path.{_≡_, refl}
 use borrow.Author.Needs.{needs}
-use Rattle.string_turn.specs.Kinds.{backtick}
-use Rattle.string_turn.specs.Passing.{Passes, none, then}
+use Rattle.classes.specs.Marks.{backtick}
+use Rattle.string_turn.specs.Passing.{StringPasses, none, then}
 use Rattle.string_turn.proofs.take.Passing.{passes-low}
 use Rattle.string_turn.proofs.take.pass_on.Statement.{statement}
 use Rattle.string_turn.proofs.take.pass_on.Tie as tie
 
 abbrev Inv-loop : tie.InvT-loop
-Inv-loop text most here₀ left₀ here left = Passes text backtick here₀ here × (here .at + left ≡ here₀ .at + most)
+Inv-loop text most here₀ left₀ here left = StringPasses text backtick here₀ here × (here .at + left ≡ here₀ .at + most)
 
 abbrev μ-loop : tie.MeasureT-loop
 μ-loop text most here₀ left₀ here left = left
@@ -62,7 +62,7 @@ pass-on-spec =
     (λ c. (none, refl))
     (λ c κs. search needs)
     (λ c. let k = c .before .before .before in let i = top k .loop .inv in (then (i .0) (k .pass-added .ensures .0), omega (arith, i .1, fits k)))
-    (λ c. low (c .before .before .before .before .before))
+    (λ c. let call = c .before .before .before .before .before in low call)
     (λ c. let k = c .before .before .before .before .before in omega (arith, low k, fits k))
     (λ c κs. search needs)
     (λ c. next-low (c .before .before))

@@ -1,8 +1,8 @@
 -- The test is the definition.
 use mathlib.Core.Path.{refl}
 use Rattle.string_turn.specs.Kinds.{isVerbatim}
-use Rattle.string_turn.proofs.act.is_verbatim.Statement.{statement}
-use Rattle.string_turn.proofs.act.is_verbatim.Tie as tie
+use Rattle.string_turn.proofs.kinds.is_verbatim.Statement.{statement}
+use Rattle.string_turn.proofs.kinds.is_verbatim.Tie as tie
 
 returns : tie.Need-returns
 unfolding isVerbatim

@@ -1,8 +1,8 @@
 -- The test is the definition.
 use mathlib.Core.Path.{refl}
 use Rattle.string_turn.specs.Kinds.{isInterpolated}
-use Rattle.string_turn.proofs.take.is_interpolated.Statement.{statement}
-use Rattle.string_turn.proofs.take.is_interpolated.Tie as tie
+use Rattle.string_turn.proofs.kinds.is_interpolated.Statement.{statement}
+use Rattle.string_turn.proofs.kinds.is_interpolated.Tie as tie
 
 returns : tie.Need-returns
 unfolding isInterpolated
