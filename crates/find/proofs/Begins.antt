@@ -22,11 +22,12 @@ use Rattle.white.specs.White.{isWhite}
 use Rattle.white.proofs.Whites.{plain}
 use Rattle.chars.specs.Cursors.{cursor}
 use Rattle.chars.specs.declared.cursor.Cursor.{Cursor}
-use Rattle.chars.specs.Ends.{endOf}
+use Rattle.chars.specs.Ends.{stretchEnd}
 use Rattle.chars.specs.declared.stretch.Stretch.the-variants as Stretch
 use Rattle.fault.specs.declared.Fault.{Fault}
 use Rattle.fault.specs.Faults.{part, unexpectedInput, stillOpen}
 use Rattle.token.specs.Tokens as Token
+use Rattle.entry.specs.Kinds as Kind
 use Rattle.identifier.specs.Identifiers.{identifyOf}
 use Rattle.identifier.specs.Told.{faultOf}
 use Rattle.identifier.specs.declared.scan.Word.{Word}
@@ -35,7 +36,7 @@ use Rattle.identifier.specs.declared.scan.Identified.the-variants as identified
 use Rattle.symbols.specs.declared.Longest.{Longest}
 use Rattle.symbols.specs.declared.Longest.the-variants.{Symbol, Nothing}
 use Rattle.comment.specs.Block.{commentOf}
-use Rattle.find.specs.Find.{symbol, number, string, text, raw, char, comment, whiteOf, wordOf, numberOf, symbolOf, blockOf, codeOf, slashOf, hashOf, signAt, onSign, markOf, beginsWord, beginsOf, findOf}
+use Rattle.find.specs.Find.{opensString, opensChar, opensText, opensRaw, whiteOf, wordOf, numberRun, symbolOf, blockComment, codeOf, slashSign, hashSign, signAt, onSign, markOf, beginsWord, beginsOf, findOf}
 use Rattle.find.specs.declared.Sign.{Sign}
 use Rattle.find.specs.declared.Sign.the-variants as sign
 use Rattle.find.specs.declared.Found.the-variants.{White, Part, Wrong, End}
@@ -62,7 +63,7 @@ module _ {x : Identified} where
 
 -- ---- symbols
 module _ (at w : ℕ) (p : Position) {l : Longest} where
-  pub a-symbol : {t n : ℕ} → l ≡ Symbol t n → symbolOf at w p l ≡ Part symbol t (cursor (at + n) (advancedBy (n - 1) p))
+  pub a-symbol : {t n : ℕ} → l ≡ Symbol t n → symbolOf at w p l ≡ Part Kind.symbol t (cursor (at + n) (advancedBy (n - 1) p))
   unfolding symbolOf
   a-symbol q = rw q
 
@@ -72,54 +73,54 @@ module _ (at w : ℕ) (p : Position) {l : Longest} where
 
 -- ---- comments
 module _ (t : List ℕ) (from : Cursor) where
-  pub block-closed : commentOf t from 1 .level ≡ 0 → blockOf t from ≡ Part comment Token.Comment (commentOf t from 1 .cursor)
-  unfolding blockOf
+  pub block-closed : commentOf t from 1 .level ≡ 0 → blockComment t from ≡ Part Kind.comment Token.Comment (commentOf t from 1 .cursor)
+  unfolding blockComment
   block-closed q = rw (eq-eqb _ 0 q)
 
-  pub block-open : (commentOf t from 1 .level ≡ 0 → ⊥) → blockOf t from ≡ Wrong (stillOpen (commentOf t from 1 .cursor .place))
-  unfolding blockOf
+  pub block-open : (commentOf t from 1 .level ≡ 0 → ⊥) → blockComment t from ≡ Wrong (stillOpen (commentOf t from 1 .cursor .place))
+  unfolding blockComment
   block-open q = rw (ne-eqb _ 0 q)
 
 -- ---- signs, by the character and the one behind it
 module _ (d : ℕ) where
-  pub hash-map : d ≡ 0x7B → hashOf d ≡ sign.Symbol
-  unfolding hashOf
+  pub hash-map : d ≡ 0x7B → hashSign d ≡ sign.Symbol
+  unfolding hashSign
   hash-map q = rw (eq-eqb d 0x7B q)
 
-  pub hash-raw : (d ≡ 0x7B → ⊥) → hashOf d ≡ sign.Literal raw
-  unfolding hashOf
+  pub hash-raw : (d ≡ 0x7B → ⊥) → hashSign d ≡ sign.Literal opensRaw
+  unfolding hashSign
   hash-raw q = rw (ne-eqb d 0x7B q)
 
-  pub slash-line : d ≡ 0x2F → slashOf d ≡ sign.Line
-  unfolding slashOf
+  pub slash-line : d ≡ 0x2F → slashSign d ≡ sign.Line
+  unfolding slashSign
   slash-line q = rw (eq-eqb d 0x2F q)
 
-  pub slash-block : d ≡ 0x2A → slashOf d ≡ sign.Block
-  unfolding slashOf
+  pub slash-block : d ≡ 0x2A → slashSign d ≡ sign.Block
+  unfolding slashSign
   slash-block q = rw (ne-eqb d 0x2F (λ r. omega arith), eq-eqb d 0x2A q)
 
-  pub slash-symbol : (d ≡ 0x2F → ⊥) → (d ≡ 0x2A → ⊥) → slashOf d ≡ sign.Symbol
-  unfolding slashOf
+  pub slash-symbol : (d ≡ 0x2F → ⊥) → (d ≡ 0x2A → ⊥) → slashSign d ≡ sign.Symbol
+  unfolding slashSign
   slash-symbol m n = rw (ne-eqb d 0x2F m, ne-eqb d 0x2A n)
 
 module _ (t : List ℕ) (at c : ℕ) where
-  pub at-quote : c ≡ 0x22 → signAt t at c ≡ sign.Literal string
+  pub at-quote : c ≡ 0x22 → signAt t at c ≡ sign.Literal opensString
   unfolding signAt
   at-quote q = rw (eq-eqb c 0x22 q)
 
-  pub at-apostrophe : c ≡ 0x27 → signAt t at c ≡ sign.Literal char
+  pub at-apostrophe : c ≡ 0x27 → signAt t at c ≡ sign.Literal opensChar
   unfolding signAt
   at-apostrophe q = rw (ne-eqb c 0x22 (λ r. omega arith), eq-eqb c 0x27 q)
 
-  pub at-backtick : c ≡ 0x60 → signAt t at c ≡ sign.Literal text
+  pub at-backtick : c ≡ 0x60 → signAt t at c ≡ sign.Literal opensText
   unfolding signAt
   at-backtick q = rw (ne-eqb c 0x22 (λ r. omega arith), ne-eqb c 0x27 (λ r. omega arith), eq-eqb c 0x60 q)
 
-  pub at-hash : c ≡ 0x23 → signAt t at c ≡ hashOf (codeOf (lookAt t (at + 1)))
+  pub at-hash : c ≡ 0x23 → signAt t at c ≡ hashSign (codeOf (lookAt t (at + 1)))
   unfolding signAt
   at-hash q = rw (ne-eqb c 0x22 (λ r. omega arith), ne-eqb c 0x27 (λ r. omega arith), ne-eqb c 0x60 (λ r. omega arith), eq-eqb c 0x23 q)
 
-  pub at-slash : c ≡ 0x2F → signAt t at c ≡ slashOf (codeOf (lookAt t (at + 1)))
+  pub at-slash : c ≡ 0x2F → signAt t at c ≡ slashSign (codeOf (lookAt t (at + 1)))
   unfolding signAt
   at-slash q = rw (ne-eqb c 0x22 (λ r. omega arith), ne-eqb c 0x27 (λ r. omega arith), ne-eqb c 0x60 (λ r. omega arith), ne-eqb c 0x23 (λ r. omega arith), eq-eqb c 0x2F q)
 
@@ -129,7 +130,7 @@ module _ (t : List ℕ) (at c : ℕ) where
 
 -- ---- a comment's two characters are within the script
 abbrev pub Paired : List ℕ → ℕ → Sign → Type 0
-Paired t at (sign.Literal k) = Unit {0}
+Paired t at (sign.Literal o) = Unit {0}
 Paired t at sign.Line = at + 2 ≤ length t
 Paired t at sign.Block = at + 2 ≤ length t
 Paired t at sign.Symbol = Unit {0}
@@ -142,8 +143,8 @@ code-within t at c q h = by (lookAt t at) refl
     by look.End e = let y : codeOf look.End ≡ c = rw e at q in absurd (omega (arith, y, h))
 
 module _ (t : List ℕ) (at : ℕ) where
-  slash-paired : (d : ℕ) → codeOf (lookAt t (at + 1)) ≡ d → Paired t at (slashOf d)
-  unfolding slashOf
+  slash-paired : (d : ℕ) → codeOf (lookAt t (at + 1)) ≡ d → Paired t at (slashSign d)
+  unfolding slashSign
   slash-paired d e =
       pick-cases (Paired t at) (eqb d (code "/")) _ _
       (λ y. omega (arith, code-within t (at + 1) 0x2F (e ∙ eqb-true d 0x2F y) (omega arith)))
@@ -151,8 +152,8 @@ module _ (t : List ℕ) (at : ℕ) where
       (λ y. omega (arith, code-within t (at + 1) 0x2A (e ∙ eqb-true d 0x2A y) (omega arith)))
       (λ n. tt))
 
-  hash-paired : (d : ℕ) → Paired t at (hashOf d)
-  unfolding hashOf
+  hash-paired : (d : ℕ) → Paired t at (hashSign d)
+  unfolding hashSign
   hash-paired d = pick-cases (Paired t at) (eqb d (code "{")) _ _ (λ y. tt) (λ n. tt)
 
   pub sign-paired : (c : ℕ) → Paired t at (signAt t at c)
@@ -204,29 +205,31 @@ digit-plain : (c : ℕ) → isNumericDigit c ≡ true → isWhite c ≡ false
 unfolding isNumericDigit
 digit-plain c y = plain (omega (arith, within-low (code "0" ‥ code "9") c y)) (omega (arith, within-high (code "0" ‥ code "9") c y))
 
--- ---- what begins behind a cursor
-module _ (t book : List ℕ) (s : Cursor) where
-  pub nothing-more : lookAt t (s .at) ≡ look.End → findOf t book s ≡ End
+-- ---- what begins behind a cursor, by what is white
+module _ (white : ℕ → Bool) (t book : List ℕ) (s : Cursor) where
+  pub nothing-more : lookAt t (s .at) ≡ look.End → findOf white t book s ≡ End
   unfolding findOf
   nothing-more e = rw e
 
   module _ {c w : ℕ} (e : lookAt t (s .at) ≡ look.Char c w) where
-    abbrev p : Position
-    p = advanced (s .place)
-
-    pub finds-white : isWhite c ≡ true → findOf t book s ≡ whiteOf c (cursor (s .at + w) p)
+    pub finds-white : white c ≡ true → findOf white t book s ≡ whiteOf c (cursor (s .at + w) (advanced (s .place)))
     unfolding findOf beginsOf
     finds-white y = rw (e, y)
 
-    pub finds-word : beginsWord c ≡ true → findOf t book s ≡ wordOf (identifyOf t book (cursor (s .at) p))
+-- no letter, no `_` and no digit is white
+module _ (t book : List ℕ) (s : Cursor) {c w : ℕ} (e : lookAt t (s .at) ≡ look.Char c w) where
+  abbrev p : Position
+  p = advanced (s .place)
+
+  pub finds-word : beginsWord c ≡ true → findOf isWhite t book s ≡ wordOf (identifyOf t book (cursor (s .at) p))
+  unfolding findOf beginsOf
+  finds-word y = rw (e, word-plain c y, y)
+
+  module _ (m : beginsWord c ≡ false) where
+    pub finds-digit : isNumericDigit c ≡ true → findOf isWhite t book s ≡ Part Kind.number Token.IntegerConstant (stretchEnd Stretch.Word t (cursor (s .at + w) p))
+    unfolding findOf beginsOf numberRun
+    finds-digit y = rw (e, digit-plain c y, m, y)
+
+    pub finds-mark : isNumericDigit c ≡ false → isWhite c ≡ false → findOf isWhite t book s ≡ markOf t (s .at) p c w
     unfolding findOf beginsOf
-    finds-word y = rw (e, word-plain c y, y)
-
-    module _ (m : beginsWord c ≡ false) where
-      pub finds-digit : isNumericDigit c ≡ true → findOf t book s ≡ Part number Token.IntegerConstant (endOf Stretch.Word t (cursor (s .at + w) p))
-      unfolding findOf beginsOf numberOf
-      finds-digit y = rw (e, digit-plain c y, m, y)
-
-      pub finds-mark : isNumericDigit c ≡ false → isWhite c ≡ false → findOf t book s ≡ markOf t (s .at) p c w
-      unfolding findOf beginsOf
-      finds-mark y n = rw (e, n, m, y)
+    finds-mark y n = rw (e, n, m, y)

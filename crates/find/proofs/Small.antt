@@ -2,6 +2,7 @@
 use Prim.Native.Nat.{ℕ, _+_, _-_, _≤_}
 use Prim.Native.Char.{code}
 use native.Mathlib.Omega.{arith}
+use mathlib.Core.Bool.{Bool}
 use mathlib.Core.List.{List}
 use mathlib.Core.Path.{_≡_, refl}
 use lib.Dec.{eqb}
@@ -15,7 +16,6 @@ use Rattle.utf8.specs.declared.Look.{Look}
 use Rattle.utf8.specs.declared.Look.the-variants as look
 use Rattle.utf8.proofs.Laws.{at-width}
 use Rattle.classes.specs.Class.{isNumericDigit}
-use Rattle.white.specs.White.{isWhite}
 use Rattle.chars.specs.Cursors.{cursor}
 use Rattle.chars.specs.declared.cursor.Cursor.{Cursor}
 use Rattle.fault.proofs.Small.{Tells, fault-tells}
@@ -30,17 +30,17 @@ use Rattle.symbols.specs.declared.Longest.{Longest}
 use Rattle.symbols.specs.declared.Longest.the-variants.{Symbol, Nothing}
 use Rattle.comment.specs.Block.{commentOf}
 use Rattle.comment.proofs.scan.Small.{comment-small}
-use Rattle.find.specs.Find.{whiteOf, wordOf, numberOf, symbolOf, lineOf, blockOf, codeOf, slashOf, hashOf, signAt, onSign, markOf, beginsWord, beginsOf, onLook, findOf}
+use Rattle.find.specs.Find.{whiteOf, wordOf, numberRun, symbolOf, lineComment, blockComment, codeOf, slashSign, hashSign, signAt, onSign, markOf, beginsWord, beginsOf, onLook, findOf}
 use Rattle.find.specs.declared.Sign.{Sign}
 use Rattle.find.specs.declared.Sign.the-variants as sign
 use Rattle.find.specs.declared.Found.{Found}
 use Rattle.find.specs.declared.Found.the-variants.{White, Part, Literal, Wrong, End}
 
-module _ (t book : List ℕ) where
+module _ (white : ℕ → Bool) (t book : List ℕ) where
   abbrev pub Found-small : Found → Type 0
   Found-small (White c) = Small (c .place)
   Found-small (Part k w c) = (k ≤ 11) × Small (c .place)
-  Found-small (Literal k c) = (k ≤ 11) × Small (c .place)
+  Found-small (Literal o c) = (o .kind ≤ 11) × Small (c .place)
   Found-small (Wrong f) = Tells (length t) f
   Found-small End = Unit {0}
 
@@ -60,12 +60,12 @@ module _ (t book : List ℕ) where
       wide : (1 ≤ w) × (at + w ≤ length t) × (w ≤ 4)
       wide = at-width t at e
 
-      line-small : Found-small (lineOf t (cursor (at + 2) (advanced p)))
-      unfolding lineOf
+      line-small : Found-small (lineComment t (cursor (at + 2) (advanced p)))
+      unfolding lineComment
       line-small = (omega arith, end-small Stretch.Line t (cursor (at + 2) (advanced p)) (advanced-small h))
 
-      block-small : Found-small (blockOf t (cursor (at + 2) (advanced p)))
-      unfolding blockOf
+      block-small : Found-small (blockComment t (cursor (at + 2) (advanced p)))
+      unfolding blockComment
       block-small =
           let from = cursor (at + 2) (advanced p) in
           let k = comment-small t from 1 (advanced-small h) in
@@ -73,17 +73,17 @@ module _ (t book : List ℕ) where
 
       -- the kind of a literal that a mark is the sign of
       abbrev Sign-small : Sign → Type 0
-      Sign-small (sign.Literal k) = k ≤ 11
+      Sign-small (sign.Literal o) = o .kind ≤ 11
       Sign-small sign.Line = Unit {0}
       Sign-small sign.Block = Unit {0}
       Sign-small sign.Symbol = Unit {0}
 
-      slash-small : (d : ℕ) → Sign-small (slashOf d)
-      unfolding slashOf
+      slash-small : (d : ℕ) → Sign-small (slashSign d)
+      unfolding slashSign
       slash-small d = pick-cases Sign-small (eqb d (code "/")) _ _ (λ y. tt) (λ n. pick-cases Sign-small (eqb d (code "*")) _ _ (λ y. tt) (λ m. tt))
 
-      hash-small : (d : ℕ) → Sign-small (hashOf d)
-      unfolding hashOf
+      hash-small : (d : ℕ) → Sign-small (hashSign d)
+      unfolding hashSign
       hash-small d = pick-cases Sign-small (eqb d (code "{")) _ _ (λ y. tt) (λ n. omega arith)
 
       sign-small : Sign-small (signAt t at c)
@@ -101,24 +101,24 @@ module _ (t book : List ℕ) where
       mark-small = by (signAt t at c) sign-small
         where
           by : (m : Sign) → Sign-small m → Found-small (onSign t at p w m)
-          by (sign.Literal k) l = (l, h)
+          by (sign.Literal o) l = (l, h)
           by sign.Line l = line-small
           by sign.Block l = block-small
           by sign.Symbol l = symbol-small w (wide .1) (longestSymbolOf t at)
 
-      begins-small : Found-small (beginsOf t book at p c w)
-      unfolding beginsOf whiteOf numberOf
+      begins-small : Found-small (beginsOf white t book at p c w)
+      unfolding beginsOf whiteOf numberRun
       begins-small =
-          pick-cases Found-small (isWhite c) _ _ (λ y. pick-cases (λ (x : Cursor). Small (x .place)) (eqb c 0x0A) _ _ (λ z. lined-small h) (λ z. h))
+          pick-cases Found-small (white c) _ _ (λ y. pick-cases (λ (x : Cursor). Small (x .place)) (eqb c 0x0A) _ _ (λ z. lined-small h) (λ z. h))
           (λ n1. pick-cases Found-small (beginsWord c) _ _
           (λ y. word-small (identifyOf t book (cursor at p)) (identified-small t book (cursor at p) h))
           (λ n2. pick-cases Found-small (isNumericDigit c) _ _ (λ y. (omega arith, end-small Stretch.Word t (cursor (at + w) p) h))
           (λ n3. mark-small)))
 
-  pub find-small : (s : Cursor) → Small (s .place) → Found-small (findOf t book s)
+  pub find-small : (s : Cursor) → Small (s .place) → Found-small (findOf white t book s)
   unfolding findOf
   find-small s h = by (lookAt t (s .at)) refl
     where
-      by : (x : Look) → lookAt t (s .at) ≡ x → Found-small (onLook t book s x)
+      by : (x : Look) → lookAt t (s .at) ≡ x → Found-small (onLook white t book s x)
       by (look.Char c w) e = begins-small (s .at) (advanced (s .place)) (advanced-small h) c w e
       by look.End e = tt

@@ -5,16 +5,17 @@ ghost use Prim.Native.Nat.{_+_, _≤_, _<_};
 ghost use lib.ListN.{length};
 ghost use Rattle.book.specs.Book.{good};
 ghost use Rattle.utf8.specs.Table.{lookAt};
+ghost use Rattle.white.specs.White.{isWhite};
 ghost use Rattle.symbols.specs.Symbols.{longestSymbolOf};
 ghost use Rattle.identifier.specs.Identifiers.{identifyOf};
 ghost use Rattle.find.specs.Find.{
   whiteOf,
   wordOf,
   symbolOf,
-  blockOf,
+  blockComment,
   codeOf,
-  slashOf,
-  hashOf,
+  slashSign,
+  hashSign,
   signAt,
   markOf,
   beginsWord,
@@ -23,6 +24,8 @@ ghost use Rattle.find.specs.Find.{
 ghost use Rattle.find.specs.Skip.{skipOf};
 use chars::cursor::Cursor;
 use chars::stretch::Stretch;
+use classes::marks;
+use entry::kinds;
 use fault::Fault;
 use fault::Part;
 use identifier::scan::Identified;
@@ -31,58 +34,51 @@ use symbols::Longest;
 use token::tokens;
 use utf8::Look;
 
-const LF: u32 = 0x0A;
+// What opens a literal: its kind, and the terminator that closes it; a raw literal's is `#`.
+pub struct Opener {
+    pub kind: u8,
+    pub terminator: u32,
+}
 
-const QUOTE: u32 = 0x22;
+impl Opener {
+    pub const STRING: Self = Self {
+        kind: kinds::STRING,
+        terminator: marks::QUOTE,
+    };
 
-const HASH: u32 = 0x23;
+    pub const CHAR: Self = Self {
+        kind: kinds::CHAR,
+        terminator: marks::APOSTROPHE,
+    };
 
-const APOSTROPHE: u32 = 0x27;
+    pub const TEXT: Self = Self {
+        kind: kinds::TEXT,
+        terminator: marks::BACKTICK,
+    };
 
-const STAR: u32 = 0x2A;
-
-const SLASH: u32 = 0x2F;
-
-const UNDERSCORE: u32 = 0x5F;
-
-const BACKTICK: u32 = 0x60;
-
-const LEFT_BRACE: u32 = 0x7B;
+    pub const RAW: Self = Self {
+        kind: kinds::RAW,
+        terminator: marks::HASH,
+    };
+}
 
 pub enum Found {
     // White space, up to a cursor.
     White(Cursor),
     // A token that is a part of the script: its kind, the Rust's token, and the cursor behind it.
     Part(u8, u8, Cursor),
-    // A literal of a kind: the cursor that its scan starts from.
-    Literal(u8, Cursor),
+    // A literal: what opens it, and the cursor behind that, whose place is the literal's start.
+    Literal(Opener, Cursor),
     // Nothing that a script may have.
     Wrong(Fault),
     // The script's end.
     End,
 }
 
-// Document 01's kinds that are found here.
-impl Found {
-    pub const SYMBOL: u8 = 3;
-
-    pub const NUMBER: u8 = 4;
-
-    pub const STRING: u8 = 5;
-
-    pub const TEXT: u8 = 7;
-
-    pub const RAW: u8 = 8;
-
-    pub const CHAR: u8 = 9;
-
-    pub const COMMENT: u8 = 10;
-}
-
 // What a mark is the sign of. A mark is a character that is not white, no letter, no `_` and no digit.
 enum Sign {
-    // A literal of a kind.
-    Literal(u8),
+    // A literal, by what opens it.
+    Literal(Opener),
     // A comment up to the end of its line.
     Line,
     // A block comment.
@@ -97,15 +93,11 @@ fn symbol(text: &[u8], at: usize, place: Position, width: usize) -> Found
     ensures { λ r. ⌜ r ≡ symbolOf at width place (longestSymbolOf (now (text .entry)) at) ⌝ }
 {
     let Longest::Symbol(token, n) = symbols::longest_of(&text[at..]) else {
-        return Found::Wrong(Fault {
-            number: Fault::UNEXPECTED_INPUT,
-            place,
-            part: Part { at, len: width },
-        });
+        return Found::Wrong(Fault::about(Fault::UNEXPECTED_INPUT, place, Part { at, len: width }));
     };
     let last = place.advanced_by(n - 1);
     Found::Part(
-        Found::SYMBOL,
+        kinds::SYMBOL,
         token,
         Cursor {
             at: at + n,
@@ -117,19 +109,14 @@ fn symbol(text: &[u8], at: usize, place: Position, width: usize) -> Found
 // A block comment, from behind its `/*`; 11 at the cursor where a level is still open at the end.
 fn block(text: &[u8], from: Cursor) -> Found
     requires { ⌜ from .at ≤ length (now text) ⌝ }
-    ensures { λ r. ⌜ r ≡ blockOf (now (text .entry)) from ⌝ }
+    ensures { λ r. ⌜ r ≡ blockComment (now (text .entry)) from ⌝ }
 {
     let comment = comment::scan::scan(text, from, 1);
     let end = comment.cursor;
     if comment.level == 0 {
-        return Found::Part(Found::COMMENT, tokens::COMMENT, end);
+        return Found::Part(kinds::COMMENT, tokens::COMMENT, end);
     }
-    let place = end.place;
-    Found::Wrong(Fault {
-        number: Fault::STILL_OPEN,
-        place,
-        part: Part::NONE,
-    })
+    Found::Wrong(Fault::at(Fault::STILL_OPEN, end.place))
 }
 
 // The code point at an offset; no code point at the end.
@@ -144,12 +131,12 @@ fn code_at(text: &[u8], at: usize) -> u32
 
 // What `/` is the sign of, by the character behind it.
 fn slash(d: u32) -> Sign
-    ensures { λ r. ⌜ r ≡ slashOf d ⌝ }
+    ensures { λ r. ⌜ r ≡ slashSign d ⌝ }
 {
-    if d == SLASH {
+    if d == marks::SLASH {
         return Sign::Line;
     }
-    if d == STAR {
+    if d == marks::STAR {
         return Sign::Block;
     }
     Sign::Symbol
@@ -157,12 +144,12 @@ fn slash(d: u32) -> Sign
 
 // What `#` is the sign of, by the character behind it.
 fn hash(d: u32) -> Sign
-    ensures { λ r. ⌜ r ≡ hashOf d ⌝ }
+    ensures { λ r. ⌜ r ≡ hashSign d ⌝ }
 {
-    if d == LEFT_BRACE {
+    if d == marks::LEFT_BRACE {
         return Sign::Symbol;
     }
-    Sign::Literal(Found::RAW)
+    Sign::Literal(Opener::RAW)
 }
 
 // What a mark at an offset is the sign of.
@@ -170,19 +157,19 @@ fn sign_at(text: &[u8], at: usize, c: u32) -> Sign
     requires { ⌜ at ≤ length (now text) ⌝ }
     ensures { λ r. ⌜ r ≡ signAt (now (text .entry)) at c ⌝ }
 {
-    if c == QUOTE {
-        return Sign::Literal(Found::STRING);
+    if c == marks::QUOTE {
+        return Sign::Literal(Opener::STRING);
     }
-    if c == APOSTROPHE {
-        return Sign::Literal(Found::CHAR);
+    if c == marks::APOSTROPHE {
+        return Sign::Literal(Opener::CHAR);
     }
-    if c == BACKTICK {
-        return Sign::Literal(Found::TEXT);
+    if c == marks::BACKTICK {
+        return Sign::Literal(Opener::TEXT);
     }
-    if c == HASH {
+    if c == marks::HASH {
         return hash(code_at(text, at + 1));
     }
-    if c == SLASH {
+    if c == marks::SLASH {
         return slash(code_at(text, at + 1));
     }
     Sign::Symbol
@@ -195,15 +182,15 @@ fn mark(text: &[u8], at: usize, place: Position, c: u32, width: usize) -> Found
 {
     let sign = sign_at(text, at, c);
     match sign {
-        Sign::Literal(kind) => Found::Literal(
-            kind,
+        Sign::Literal(opener) => Found::Literal(
+            opener,
             Cursor {
                 at: at + width,
                 place,
             },
         ),
         Sign::Line => Found::Part(
-            Found::COMMENT,
+            kinds::COMMENT,
             tokens::COMMENT,
             chars::stretch::end_of(
                 Stretch::Line,
@@ -245,14 +232,14 @@ fn begins_word(c: u32) -> bool
     if classes::is_id_first_alphabetic(c) {
         return true;
     }
-    c == UNDERSCORE
+    c == marks::UNDERSCORE
 }
 
 // Past a character that is white: only LF starts a line.
 fn white(c: u32, next: Cursor) -> Found
     ensures { λ r. ⌜ r ≡ whiteOf c next ⌝ }
 {
-    if c == LF {
+    if c == marks::LF {
         let at = next.at;
         let place = next.place.lined();
         return Found::White(Cursor { at, place });
@@ -260,9 +247,9 @@ fn white(c: u32, next: Cursor) -> Found
     Found::White(next)
 }
 
-// Inner: behind the ASCII white space that follows a cursor; only LF starts a line.
+// Behind the ASCII white space that follows a cursor; only LF starts a line.
 pub fn skip(text: &[u8], from: Cursor) -> Cursor
-    ensures { λ r. ⌜ r ≡ skipOf (now (text .entry)) from ⌝ }
+    ensures { λ r. ⌜ r ≡ skipOf isWhite (now (text .entry)) from ⌝ }
 {
     let mut at = from.at;
     let mut place = from.place;
@@ -276,7 +263,7 @@ pub fn skip(text: &[u8], from: Cursor) -> Cursor
         if white::is_white(c) {
             at += width;
             place = place.advanced();
-            if c == LF {
+            if c == marks::LF {
                 place = place.lined();
             }
         } else {
@@ -285,11 +272,11 @@ pub fn skip(text: &[u8], from: Cursor) -> Cursor
     }
 }
 
-// Inner: what begins behind a cursor, for a run, which has checked its text and its book. Letters come first, since most tokens
+// What begins behind a cursor, for a run, which has checked its text and its book. Letters come first, since most tokens
 // begin with one; none is white.
 pub fn find(book: &[u8], text: &[u8], from: Cursor) -> Found
     requires { ⌜ good (now book) ≡ true ⌝ }
-    ensures { λ r. ⌜ r ≡ findOf (now (text .entry)) (now (book .entry)) from ⌝ }
+    ensures { λ r. ⌜ r ≡ findOf isWhite (now (text .entry)) (now (book .entry)) from ⌝ }
 {
     let at = from.at;
     let place = from.place.advanced();
@@ -305,7 +292,7 @@ pub fn find(book: &[u8], text: &[u8], from: Cursor) -> Found
     }
     if classes::is_numeric_digit(c) {
         return Found::Part(
-            Found::NUMBER,
+            kinds::NUMBER,
             tokens::INTEGER_CONSTANT,
             chars::stretch::end_of(Stretch::Word, text, next),
         );

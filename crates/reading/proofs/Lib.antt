@@ -1,4 +1,3 @@
 pub mod Limits
 pub mod Fits
-pub mod Layouts
 pub mod Small

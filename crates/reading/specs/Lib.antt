@@ -1,5 +1,4 @@
 pub mod Reading
 pub mod CutRun
 pub mod Limits
-pub mod Entries
 pub mod Told

@@ -1,51 +1,80 @@
 -- A script's reading by the unlimited rules, as a value: its tokens in their order, and how it ends. No limit and no room is in it.
-use Prim.Native.Nat.{ℕ, _+_}
+use Prim.Native.Nat.{ℕ, _+_, _-_}
 use mathlib.Core.List.{List, [], _∷_, _++_}
 use lib.ListN.{length}
 use Rattle.position.specs.declared.Position.{Position}
-use Rattle.fault.specs.declared.Part.{Part}
 use Rattle.fault.specs.declared.Fault.{Fault}
 use Rattle.chars.specs.declared.cursor.Cursor.{Cursor}
 use Rattle.literal.specs.Trace.{Trace, bytes, final, Outcome, good, bad}
-use Rattle.reading.specs.declared.Entry.{Entry}
+use Rattle.entry.specs.declared.Entry.{Entry}
+use Rattle.entry.specs.Entries.{entry}
 use Rattle.reading.specs.declared.Ending.{Ending}
 use Rattle.reading.specs.declared.Ending.the-variants.{End, Stop}
 
--- the script is over at a place; or it stops with a fault that no literal brings; or with one that is found behind a literal, which begins at a cursor and is not listed; or a token is listed, of a kind, at a place, which is a part of the script; or a literal is read and listed, of a kind, from a cursor on
+-- a token: its kind; the cursor at its first character, a literal's opener too, whose place is the token's; the cursor behind its last; and the numbers that it stands for, which no token has yet
+pub record Token : Type 0 where
+  pub kind : ℕ
+  pub start : Cursor
+  pub end : Cursor
+  pub values : List ℕ
+
+abbrev pub token : ℕ → Cursor → Cursor → Token
+token k s e = record { kind = k; start = s; end = e; values = [] }
+
+-- the script is over at a place; or it stops with a fault that no literal brings; or with one that is found in or behind a literal, which begins at a cursor and is not listed; or a token is listed that is a part of the script; or a literal is read and listed
 pub data Reading : Type 0 where
-  over : Position → Reading
+  finishes : Position → Reading
   halts : Fault → Reading
   spoils : Cursor → Trace → Fault → Reading
-  lists : ℕ → Position → Part → Reading → Reading
-  reads : ℕ → Cursor → Trace → Reading → Reading
+  lists : Token → Reading → Reading
+  reads : Token → Trace → Reading → Reading
 
--- a token's entry
-abbrev pub entry : ℕ → Position → ℕ → ℕ → Entry
-entry k p a n = record { kind = k; place = p; at = a; len = n }
+-- what a token that is listed leaves: its entry, its literal bytes and its numbers
+pub record Kept : Type 0 where
+  pub entry : Entry
+  pub bytes : List ℕ
+  pub values : List ℕ
 
--- what a run leaves: the entries, the packed literal bytes, and how it ends
+-- a token whose bytes, so many, stand at an offset
+abbrev pub kept : Token → ℕ → ℕ → List ℕ → Kept
+kept k at n bs = record { entry = entry (k .kind) (k .start .place) at n; bytes = bs; values = k .values }
+
+-- a token that is a part of the script
+abbrev pub keptPart : Token → Kept
+keptPart k = kept k (k .start .at) (k .end .at - k .start .at) []
+
+-- what a run leaves: what each token leaves, in their order, and how it ends
 pub record Left : Type 0 where
-  pub listed : List Entry
-  pub packed : List ℕ
+  pub tokens : List Kept
   pub ending : Ending
 
--- nothing more is listed
-abbrev pub ended : Ending → Left
-ended e = record { listed = []; packed = []; ending = e }
+-- the entries of some tokens
+unfoldable pub entries : List Kept → List Entry
+entries [] = []
+entries (k ∷ ks) = k .entry ∷ entries ks
 
--- one entry more, with its literal bytes
-abbrev pub more : Entry → List ℕ → Left → Left
-more e bs l = record { listed = e ∷ l .listed; packed = bs ++ l .packed; ending = l .ending }
+-- their literal bytes, packed
+unfoldable pub literalBytes : List Kept → List ℕ
+literalBytes [] = []
+literalBytes (k ∷ ks) = k .bytes ++ literalBytes ks
+
+-- nothing more is listed
+abbrev pub nothingMore : Ending → Left
+nothingMore e = record { tokens = []; ending = e }
+
+-- one token more
+abbrev pub more : Kept → Left → Left
+more k l = record { tokens = k ∷ l .tokens; ending = l .ending }
 
 -- a literal that is accepted goes on; one that a rule of its own refuses stops the run
-abbrev pub onEnd : Outcome → Left → Left
-onEnd (good e) l = l
-onEnd (bad f) l = ended (Stop (f .fault))
+abbrev pub onOutcome : Outcome → Left → Left
+onOutcome (good e) l = l
+onOutcome (bad f) l = nothingMore (Stop (f .fault))
 
 -- what a run leaves where nothing cuts it, with so many literal bytes packed before
 unfoldable pub whole : ℕ → Reading → Left
-whole used (over p) = ended (End p)
-whole used (halts f) = ended (Stop f)
-whole used (spoils s t f) = onEnd (final t) (ended (Stop f))
-whole used (lists k p q r) = more (entry k p (q .at) (q .len)) [] (whole used r)
-whole used (reads k s t r) = onEnd (final t) (more (entry k (s .place) used (length (bytes t))) (bytes t) (whole (used + length (bytes t)) r))
+whole used (finishes p) = nothingMore (End p)
+whole used (halts f) = nothingMore (Stop f)
+whole used (spoils s t f) = onOutcome (final t) (nothingMore (Stop f))
+whole used (lists k r) = more (keptPart k) (whole used r)
+whole used (reads k t r) = onOutcome (final t) (more (kept k used (length (bytes t)) (bytes t)) (whole (used + length (bytes t)) r))

@@ -7,16 +7,16 @@ use Rattle.reading.specs.declared.Ending.{Ending}
 use Rattle.reading.specs.declared.Ending.the-variants.{End, Stop}
 
 -- the stop's number; 0 for the script's end
-unfoldable pub numberOf : Ending → ℕ
-numberOf (End p) = 0
-numberOf (Stop f) = f .number
+unfoldable pub endingNumber : Ending → ℕ
+endingNumber (End p) = 0
+endingNumber (Stop f) = f .number
 
 -- the place that comes with it
-unfoldable pub placeOf : Ending → Position
-placeOf (End p) = p
-placeOf (Stop f) = f .place
+unfoldable pub endingPlace : Ending → Position
+endingPlace (End p) = p
+endingPlace (Stop f) = f .place
 
 -- the part of the script that it is about; none at the script's end
-unfoldable pub partOf : Ending → Part
-partOf (End p) = part 0 0
-partOf (Stop f) = f .part
+unfoldable pub endingPart : Ending → Part
+endingPart (End p) = part 0 0
+endingPart (Stop f) = f .part

@@ -1,17 +1,16 @@
-// What a run over a script lists, and how it ends.
+// What a run over a script runs within, and how it ends.
 use fault::Fault;
 use position::Position;
+
+// The limit on a literal's bytes, 0 for none; and how many literal bytes and how many entries there is room for.
+pub struct Bounds {
+    pub limit: usize,
+    pub literals: usize,
+    pub entries: usize,
+}
 
 // The script's end and its place, or a stop that holds the fault and, inside it, its place.
 pub enum Ending {
     End(Position),
     Stop(Fault),
-}
-
-// A token's kind, its place, and where it stands and how long it is, in the script or, for a literal, in the packed literal bytes.
-pub struct Entry {
-    pub kind: u8,
-    pub place: Position,
-    pub at: usize,
-    pub len: usize,
 }

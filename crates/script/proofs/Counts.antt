@@ -9,13 +9,13 @@ use Rattle.basis.proofs.Cases.{not-both}
 use Rattle.token.specs.Tokens as Tokens
 use Rattle.chars.specs.declared.cursor.Cursor.{Cursor}
 use Rattle.script.specs.declared.State.{State}
-use Rattle.script.specs.declared.Passed.{Passed}
-use Rattle.script.specs.declared.Passed.the-variants.{Plain, Piece, Token}
+use Rattle.script.specs.declared.Crossed.{Crossed}
+use Rattle.script.specs.declared.Crossed.the-variants.{Plain, Piece, Token}
 use Rattle.script.specs.States.{state, movedTo, count, counted, resumed, opened, closed, behind, behindOf}
 use Rattle.script.specs.Counts.{counts}
 
 -- ---- each way out of the test
-module _ (level : ℕ) {what : Passed} where
+module _ (level : ℕ) {what : Crossed} where
   pub plain-counts : what ≡ Plain → counts level what ≡ false
   unfolding counts
   plain-counts q = rw q
@@ -59,12 +59,12 @@ only-further to s false true b c n = not-both refl n
 only-further to s false false true c n = not-both refl n
 only-further to s false false false true n = not-both refl n
 
-uncounted : (what : Passed) (to : Cursor) (s : State) → counts (s .level) what ≡ false → behindOf what to s ≡ movedTo to s
+uncounted : (what : Crossed) (to : Cursor) (s : State) → counts (s .level) what ≡ false → behindOf what to s ≡ movedTo to s
 unfolding counts behindOf behind opened closed
 uncounted Plain to s n = refl
 uncounted Piece to s n = not-both refl n
 uncounted (Token t) to s n = only-further to s (eqb (s .level) 0) (eqb t Tokens.LeftBrace) (eqb t Tokens.MapStart) (eqb t Tokens.RightBrace) n
 
-pub uncounted-state : (what : Passed) (to : Cursor) (s : State) → counts (s .level) what ≡ false → state to (s .level) (s .braces) false ≡ behindOf what to s
+pub uncounted-state : (what : Crossed) (to : Cursor) (s : State) → counts (s .level) what ≡ false → state to (s .level) (s .braces) false ≡ behindOf what to s
 unfolding movedTo
 uncounted-state what to s n = sym (uncounted what to s n)

@@ -5,59 +5,41 @@ use mathlib.Core.List.{List, [], _∷_}
 use mathlib.Core.Path.{_≡_, refl}
 use Rattle.basis.specs.Words.{word}
 use Rattle.position.specs.declared.Position.{Position}
-use Rattle.position.specs.Place.{place, none, start, isNone, up, advanced, advancedBy, lined, rewound, orElse, onLine, beginsLine, columnNumber}
-use Rattle.utf8.specs.Table.{look, lookAt, charsFrom, chars, charsAt, wellFrom, well, edge}
-use Rattle.utf8.specs.Encode.{isScalar, encode, encoded}
-use Rattle.classes.specs.Class as Class
-use Rattle.white.specs.White.{isWhite}
+use Rattle.position.specs.Place.{place}
 use Rattle.chars.specs.declared.cursor.Cursor.{Cursor}
-use Rattle.chars.specs.Cursors.{cursor, getNextOf, eatNextOf}
-use Rattle.chars.specs.Scan.{run, runAt, widths}
+use Rattle.chars.specs.Cursors.{cursor}
 use Rattle.fault.specs.Faults.{fault}
-use Rattle.token.specs.Keywords as Keywords
-use Rattle.keywords.specs.Lookup as Look
-use Rattle.book.specs.Order as Order
-use Rattle.book.specs.Contents as Contents
-use Rattle.book.specs.Book as Book
-use Rattle.book_lookup.specs.Lookup as Reserved
-use Rattle.identifier.specs.Valid as Valid
-use Rattle.chars.specs.Ends as Stretch
-use Rattle.identifier.specs.Identifiers as Identifiers
-use Rattle.symbols.specs.Symbols as Symbols
-use Rattle.comment.specs.Block as Block
-use Rattle.literal.specs.Trace.{yields, bytes, final, passes}
-use Rattle.literal.specs.Cut.{cut}
-use Rattle.string_turn.specs.Escapes as Escapes
-use Rattle.string_turn.specs.Kinds.{isVerbatim, isContinued, isInterpolated}
-use Rattle.string_turn.specs.Endings.{unterminatedAt, malformedAt}
-use Rattle.string_turn.specs.Take.{isEmpty, nextIs, endOf, dollarOf, takeOf}
-use Rattle.string_turn.specs.Act.{columnOf, closeOf, lineFeedOf, escapeOf, addOf, plainOf, otherOf, matchOf, actOf}
-use Rattle.string.specs.Ends.{argumentAt, tooLongAt, fullAt, lastOf}
-use Rattle.string.specs.Reading as String
-use Rattle.raw.specs.Opening as Open
-use Rattle.raw.specs.Raw as Raw
+use Rattle.literal.proofs.Computes.{the-places, the-characters, the-readings}
+use Rattle.string_turn.proofs.Computes.{the-escapes, the-takes, the-acts}
+use Rattle.string.proofs.Computes.{the-string-rules}
+use Rattle.raw.proofs.Computes.{the-raw-rules}
+use Rattle.entry.specs.declared.Entry.{Entry}
+use Rattle.entry.specs.Entries.{entry}
+use Rattle.find.specs.Find.{opensString}
+use Rattle.find.specs.declared.Opener.{Opener}
 use Rattle.reading.specs.declared.Ending.{Ending}
 use Rattle.reading.specs.declared.Ending.the-variants.{End, Stop}
-use Rattle.reading.specs.declared.Entry.{Entry}
-use Rattle.reading.specs.Reading.{over, reads, entry, whole}
-use Rattle.reading.specs.CutRun.{cutRun}
-use Rattle.find.specs.Find as Find
-use Rattle.script.specs.States as States
-use Rattle.script.specs.Steps as Steps
-use Rattle.script.specs.Script as Script
+use Rattle.reading.specs.Reading.{Token, token, finishes, reads, Left, entries, literalBytes, whole}
+use Rattle.reading.specs.CutRun.{bounds, cutRun}
+use Rattle.script.specs.Rules.{document01}
+use Rattle.script.specs.Steps.{literalTrace}
+use Rattle.script.specs.Script.{scriptOf}
+use Rattle.script.proofs.Computes.{the-listed, the-symbols, the-names, the-books, the-finds, the-steps, the-runs}
 
 -- a script under the empty book: what a run leaves of it where nothing cuts it
+abbrev Lists : Left → List Entry → String → Ending → Type 0
+Lists l es literals ending = (entries (l .tokens) ≡ es) × (literalBytes (l .tokens) ≡ word literals) × (l .ending ≡ ending)
+
 abbrev pub Leaves : String → List Entry → String → Ending → Type 0
-Leaves script entries literals ending = whole 0 (Script.scriptOf (word script) (0 ∷ 0 ∷ [])) ≡ record { listed = entries; packed = word literals; ending = ending }
+Leaves script = Lists (whole 0 (scriptOf document01 (word script) (0 ∷ 0 ∷ [])))
 
 -- and within bounds
 abbrev pub Leaves-within : ℕ → ℕ → ℕ → String → List Entry → String → Ending → Type 0
-Leaves-within limit literals room script entries packed ending =
-    cutRun (record { limit = limit; literals = literals; entries = room }) 0 0 (Script.scriptOf (word script) (0 ∷ 0 ∷ [])) ≡ record { listed = entries; packed = word packed; ending = ending }
+Leaves-within limit literals room script = Lists (cutRun (bounds limit literals room) 0 0 (scriptOf document01 (word script) (0 ∷ 0 ∷ [])))
 
--- a script that is one literal, of a kind, from a cursor on
-abbrev pub Reads-one : String → ℕ → Cursor → Position → Type 0
-Reads-one script k from end = Script.scriptOf (word script) (0 ∷ 0 ∷ []) ≡ reads k from (Steps.traceOf (word script) k from) (over end)
+-- a script that is one literal: the token that it is, and what opens it
+abbrev pub Reads-one : String → Token → Opener → Cursor → Position → Type 0
+Reads-one script k o from end = scriptOf document01 (word script) (0 ∷ 0 ∷ []) ≡ reads k (literalTrace document01 (word script) o from) (finishes end)
 
 pub record Worked : Type 0 where
   -- document 01's listing
@@ -91,7 +73,7 @@ pub record Worked : Type 0 where
   -- a text that is due at the end
   pub open-piece : Leaves "`${}" (entry 6 (place 1 1) 0 0 ∷ entry 3 (place 1 3) 2 1 ∷ entry 3 (place 1 4) 3 1 ∷ []) "" (Stop (fault 11 (place 1 5)))
   -- one literal
-  pub one-literal : Reads-one "\"a\"" 5 (cursor 1 (place 1 1)) (place 1 3)
+  pub one-literal : Reads-one "\"a\"" (token 5 (cursor 0 (place 1 1)) (cursor 3 (place 1 3))) opensString (cursor 1 (place 1 1)) (place 1 3)
   -- two literals, with room for both
   pub two-literals : Leaves-within 0 2 2 "\"a\" \"b\"" (entry 5 (place 1 1) 0 1 ∷ entry 5 (place 1 5) 1 1 ∷ []) "ab" (End (place 1 7))
   pub two-others : Leaves-within 0 2 2 "\"a\" \"c\"" (entry 5 (place 1 1) 0 1 ∷ entry 5 (place 1 5) 1 1 ∷ []) "ac" (End (place 1 7))
@@ -101,29 +83,29 @@ pub record Worked : Type 0 where
   pub no-entry-left : Leaves-within 0 2 1 "\"a\" \"b\"" (entry 5 (place 1 1) 0 1 ∷ []) "a" (Stop (fault 10 (place 1 5)))
 
 pub worked : Worked
-unfolding word passes cut cutRun none isNone up advanced advancedBy lined rewound orElse onLine columnNumber beginsLine look lookAt charsFrom chars charsAt wellFrom well edge isScalar encode encoded Class.digitOf isWhite getNextOf eatNextOf run runAt widths yields bytes Escapes.letterOf Escapes.digitsAfter Escapes.digitsFrom Escapes.numberOf Escapes.escapedOf isVerbatim isContinued isInterpolated unterminatedAt malformedAt isEmpty columnOf nextIs endOf dollarOf takeOf closeOf lineFeedOf escapeOf addOf plainOf otherOf matchOf actOf argumentAt tooLongAt fullAt lastOf String.turnOf String.rule String.begun String.readingOf Open.cutOff Open.openingTurn Open.openedOf Raw.heldBack Raw.placed Raw.atEnd Raw.turn Raw.bodyOf Raw.readOf Block.turn Block.commentOf Class.isNumericDigit Class.isIdFirstAlphabetic Class.isIdContinue Stretch.goesOn Stretch.endOf Identifiers.kindOf Identifiers.unlisted Identifiers.listed Identifiers.classOf Identifiers.answered Identifiers.spanned Identifiers.begun Identifiers.identifyOf Valid.afterUnderscores Valid.goesOn Valid.isValidIdentifier Valid.letterFirst Symbols.isSymbol Symbols.stands Symbols.standing Symbols.longer Symbols.longestIn Symbols.longestOf Symbols.longestSymbolOf final whole States.begun States.movedTo States.interpolated States.count States.opened States.closed States.behind Steps.terminatorOf Steps.traceOf Steps.wrongOf Steps.faultOf Steps.listedOf Steps.literalOf Steps.endOf Steps.stepOf States.counted States.resumed Find.whiteOf Find.wordOf Find.numberOf Find.symbolOf Find.lineOf Find.blockOf Find.slashOf Find.hashOf Find.signAt Find.markOf Find.beginsWord Find.beginsOf Find.findOf Script.readingFrom Script.scriptFrom Script.scriptOf start Look.begins Look.same Look.lookupIn Look.lookupOf Reserved.Stands Reserved.firstOf Reserved.isA Reserved.isB Reserved.answerOf Reserved.answered Reserved.reservedOf Reserved.eitherBook Reserved.heldOf Reserved.partOf Reserved.placeOf Reserved.foundPart Reserved.foundPlace Keywords.keywords Keywords.entryAt Book.few Book.runsOn Book.ascii Book.sized Book.flagged Book.fit Book.allFit Book.belowNext Book.rising Book.good Book.checkOf Contents.u16At Contents.count Contents.startAt Contents.sizeAt Contents.wordAt Contents.wordsFrom Contents.words Contents.enough Contents.rowsOf Contents.rowOf Order.compared Order.below Order.same
+unfolding the-places the-characters the-readings the-escapes the-takes the-acts the-string-rules the-raw-rules the-listed the-symbols the-names the-books the-finds the-steps the-runs
 worked = record {
-  listing = refl;
-  nothing = refl;
-  number = refl;
-  interpolation = refl;
-  line = refl;
-  map = refl;
-  char = refl;
-  no-char = refl;
-  cut-char = refl;
-  cut-string = refl;
-  open-text = refl;
-  open-line = refl;
-  open-raw = refl;
-  open-comment = refl;
-  open-string = refl;
-  open-block = refl;
-  open-piece = refl;
+  listing = (refl, refl, refl);
+  nothing = (refl, refl, refl);
+  number = (refl, refl, refl);
+  interpolation = (refl, refl, refl);
+  line = (refl, refl, refl);
+  map = (refl, refl, refl);
+  char = (refl, refl, refl);
+  no-char = (refl, refl, refl);
+  cut-char = (refl, refl, refl);
+  cut-string = (refl, refl, refl);
+  open-text = (refl, refl, refl);
+  open-line = (refl, refl, refl);
+  open-raw = (refl, refl, refl);
+  open-comment = (refl, refl, refl);
+  open-string = (refl, refl, refl);
+  open-block = (refl, refl, refl);
+  open-piece = (refl, refl, refl);
   one-literal = refl;
-  two-literals = refl;
-  two-others = refl;
-  too-long = refl;
-  no-bytes-left = refl;
-  no-entry-left = refl;
+  two-literals = (refl, refl, refl);
+  two-others = (refl, refl, refl);
+  too-long = (refl, refl, refl);
+  no-bytes-left = (refl, refl, refl);
+  no-entry-left = (refl, refl, refl);
 }

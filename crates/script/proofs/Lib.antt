@@ -1,3 +1,4 @@
+pub mod Computes
 pub mod Examples
 pub mod Onward
 pub mod Moves

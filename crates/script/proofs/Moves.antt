@@ -12,8 +12,8 @@ use Rattle.basis.proofs.Cases.{pick-cases}
 use Rattle.chars.specs.declared.cursor.Cursor.{Cursor}
 use Rattle.token.specs.Tokens as Tokens
 use Rattle.script.specs.declared.State.{State}
-use Rattle.script.specs.declared.Passed.{Passed}
-use Rattle.script.specs.declared.Passed.the-variants.{Plain, Piece, Token}
+use Rattle.script.specs.declared.Crossed.{Crossed}
+use Rattle.script.specs.declared.Crossed.the-variants.{Plain, Piece, Token}
 use Rattle.script.specs.States.{state, movedTo, interpolated, count, counted, resumed, opened, closed, behind, behindOf, Fine, Fits}
 
 module _ (to : Cursor) (s : State) where
@@ -58,7 +58,7 @@ module _ (t : ℕ) (to : Cursor) (s : State) where
       behind-other q = rw (ne-eqb t Tokens.LeftBrace l, ne-eqb t Tokens.MapStart m, ne-eqb t Tokens.RightBrace q)
 
 -- what was passed, by its case
-module _ {what : Passed} (to : Cursor) (s : State) where
+module _ {what : Crossed} (to : Cursor) (s : State) where
   pub passed-plain : what ≡ Plain → behindOf what to s ≡ movedTo to s
   unfolding behindOf
   passed-plain q = rw q
@@ -71,7 +71,7 @@ module _ {what : Passed} (to : Cursor) (s : State) where
   unfolding behindOf
   passed-token q = rw q
 
-pub room-for : {what : Passed} (s : State) → what ≡ Piece → Fits what s → s .level < 16
+pub room-for : {what : Crossed} (s : State) → what ≡ Piece → Fits what s → s .level < 16
 room-for s q f = rw q at f
 
 -- ---- a run stays fine
@@ -107,7 +107,7 @@ module _ (to : Cursor) (s : State) (fine : Fine s) (on : s .cursor .at < to .at)
       (λ y. fine-at _ _ _ (omega (arith, fine .deep)) (set-few (s .braces) (s .level - 1) 0 (to .at) (omega arith) few))
       (λ m. fine-at _ _ _ (fine .deep) (set-few (s .braces) (s .level - 1) _ (to .at) (omega (arith, few (s .level - 1))) few)))
 
-  pub fine-behind : (what : Passed) → Fits what s → Fine (behindOf what to s)
+  pub fine-behind : (what : Crossed) → Fits what s → Fine (behindOf what to s)
   unfolding behindOf interpolated behind
   fine-behind Plain f = fine-moved
   fine-behind Piece f = fine-at _ _ _ (omega arith) (set-few (s .braces) (s .level) 0 (to .at) (omega arith) few)

@@ -13,40 +13,41 @@ use Rattle.find.specs.declared.Found.the-variants.{White}
 use Rattle.find.proofs.Ahead as Finds
 use Rattle.find.proofs.Ahead.{find-ahead}
 use Rattle.find.proofs.Skips.{skipped-by}
+use Rattle.script.specs.Rules.{Rules}
 use Rattle.script.specs.declared.State.{State}
-use Rattle.script.specs.declared.Passed.{Passed}
-use Rattle.script.specs.declared.Passed.the-variants.{Plain, Piece, Token}
+use Rattle.script.specs.declared.Crossed.{Crossed}
+use Rattle.script.specs.declared.Crossed.the-variants.{Plain, Piece, Token}
 use Rattle.script.specs.States.{state, movedTo, interpolated, count, counted, resumed, opened, closed, behind, behindOf, Fine, Fits}
 use Rattle.script.specs.Steps.{on, nothing, stepOf}
 use Rattle.script.specs.Script.{scriptFrom}
 use Rattle.script.specs.Skips.{skipped}
 use Rattle.script.proofs.Onward.{reading-on}
 
-module _ (t book : List ℕ) (s : State) where
+module _ (rules : Rules) (t book : List ℕ) (s : State) where
   -- ---- one white character is one step that notes nothing
-  module _ (c to : Cursor) (e : findOf t book c ≡ White to) where
+  module _ (c to : Cursor) (e : findOf (rules .white) t book c ≡ White to) where
     further : Finds.Further t (c .at) to
-    further = rw e at (find-ahead t book c)
+    further = rw e at (find-ahead (rules .white) t book c)
 
-    white-step : stepOf t book (movedTo c s) ≡ on nothing (movedTo to s)
+    white-step : stepOf rules t book (movedTo c s) ≡ on nothing (movedTo to s)
     unfolding stepOf movedTo
     white-step = rw e
 
-    white-reads : scriptFrom t book (movedTo c s) ≡ scriptFrom t book (movedTo to s)
+    white-reads : scriptFrom rules t book (movedTo c s) ≡ scriptFrom rules t book (movedTo to s)
     unfolding movedTo
-    white-reads = reading-on t book (movedTo c s) white-step (further .0) (further .1)
+    white-reads = reading-on rules t book (movedTo c s) white-step (further .0) (further .1)
 
   -- ---- and so are many
   -- behind some of it: further on or not, within the script, and what is read from here is what is read from the start
   abbrev Behind : Cursor → Type 0
-  Behind c = (s .cursor .at ≤ c .at) × (s .cursor .at ≤ length t → c .at ≤ length t) × (scriptFrom t book (movedTo (s .cursor) s) ≡ scriptFrom t book (movedTo c s))
+  Behind c = (s .cursor .at ≤ c .at) × (s .cursor .at ≤ length t → c .at ≤ length t) × (scriptFrom rules t book (movedTo (s .cursor) s) ≡ scriptFrom rules t book (movedTo c s))
 
-  one-more : (c to : Cursor) → findOf t book c ≡ White to → Behind c → Behind to
+  one-more : (c to : Cursor) → findOf (rules .white) t book c ≡ White to → Behind c → Behind to
   one-more c to e (a, b, r) = let f = further c to e in (omega (arith, f .0), λ h. f .1, r ∙ white-reads c to e)
 
-  behind-all : Behind (skipOf t (s .cursor))
+  behind-all : Behind (skipOf (rules .white) t (s .cursor))
   unfolding skipOf
-  behind-all = skipped-by t book Behind one-more (length t - s .cursor .at) (s .cursor) (omega arith, λ h. h, refl)
+  behind-all = skipped-by (rules .white) t book Behind one-more (length t - s .cursor .at) (s .cursor) (omega arith, λ h. h, refl)
 
   -- ---- where the run stands then
   stays : s .due ≡ false → movedTo (s .cursor) s ≡ s
@@ -62,58 +63,58 @@ module _ (t book : List ℕ) (s : State) where
     pub forward : s .cursor .at ≤ r .cursor .at
     pub within : s .cursor .at ≤ length t → r .cursor .at ≤ length t
     pub fine : s .cursor .at ≤ length t → length t ≤ 16777216 → Fine s → Fine r
-    pub reads : scriptFrom t book s ≡ scriptFrom t book r
+    pub reads : scriptFrom rules t book s ≡ scriptFrom rules t book r
 
-  moved : s .due ≡ false → Behind (skipOf t (s .cursor)) → Skips (movedTo (skipOf t (s .cursor)) s)
+  moved : s .due ≡ false → Behind (skipOf (rules .white) t (s .cursor)) → Skips (movedTo (skipOf (rules .white) t (s .cursor)) s)
   unfolding movedTo
   moved n (a, b, r) = record {
     forward = a;
     within = b;
-    fine = λ h l f. let i = b h in fine-further f (skipOf t (s .cursor)) a (omega arith);
-    reads = ap (scriptFrom t book) (sym (stays n)) ∙ r;
+    fine = λ h l f. let i = b h in fine-further f (skipOf (rules .white) t (s .cursor)) a (omega arith);
+    reads = ap (scriptFrom rules t book) (sym (stays n)) ∙ r;
   }
 
-  pub skips : Skips (skipped t s)
+  pub skips : Skips (skipped rules t s)
   unfolding skipped
   skips = by (s .due) refl
     where
-      by : (d : Bool) → s .due ≡ d → Skips (pick d s (movedTo (skipOf t (s .cursor)) s))
+      by : (d : Bool) → s .due ≡ d → Skips (pick d s (movedTo (skipOf (rules .white) t (s .cursor)) s))
       by true y = record { forward = omega arith; within = λ h. h; fine = λ h l f. f; reads = refl }
       by false n = moved n behind-all
 
 -- ---- what a run passes behind white space is passed as from before it
-module _ (t : List ℕ) (s : State) where
-  pub skipped-due : s .due ≡ true → skipped t s ≡ s
+module _ (rules : Rules) (t : List ℕ) (s : State) where
+  pub skipped-due : s .due ≡ true → skipped rules t s ≡ s
   unfolding skipped
   skipped-due y = rw y
 
-  pub skipped-on : s .due ≡ false → skipped t s ≡ state (skipOf t (s .cursor)) (s .level) (s .braces) false
+  pub skipped-on : s .due ≡ false → skipped rules t s ≡ state (skipOf (rules .white) t (s .cursor)) (s .level) (s .braces) false
   unfolding skipped movedTo
   skipped-on n = rw n
 
-  pub skipped-moved : (to : Cursor) → movedTo to (skipped t s) ≡ state to (s .level) (s .braces) false
+  pub skipped-moved : (to : Cursor) → movedTo to (skipped rules t s) ≡ state to (s .level) (s .braces) false
   unfolding skipped movedTo
   skipped-moved to = by (s .due)
     where
-      by : (d : Bool) → movedTo to (pick d s (movedTo (skipOf t (s .cursor)) s)) ≡ state to (s .level) (s .braces) false
+      by : (d : Bool) → movedTo to (pick d s (movedTo (skipOf (rules .white) t (s .cursor)) s)) ≡ state to (s .level) (s .braces) false
       by true = refl
       by false = refl
 
-  pub skipped-behind : (what : Passed) (to : Cursor) → behindOf what to (skipped t s) ≡ behindOf what to s
+  pub skipped-behind : (what : Crossed) (to : Cursor) → behindOf what to (skipped rules t s) ≡ behindOf what to s
   unfolding skipped movedTo interpolated count counted resumed opened closed behind behindOf
   skipped-behind what to = by (s .due) what
     where
-      by : (d : Bool) (what : Passed) → behindOf what to (pick d s (movedTo (skipOf t (s .cursor)) s)) ≡ behindOf what to s
+      by : (d : Bool) (what : Crossed) → behindOf what to (pick d s (movedTo (skipOf (rules .white) t (s .cursor)) s)) ≡ behindOf what to s
       by true what = refl
       by false Plain = refl
       by false Piece = refl
       by false (Token w) = refl
 
-  pub skipped-fits : (what : Passed) → Fits what (skipped t s) → Fits what s
+  pub skipped-fits : (what : Crossed) → Fits what (skipped rules t s) → Fits what s
   unfolding skipped movedTo
   skipped-fits what = by (s .due) what
     where
-      by : (d : Bool) (what : Passed) → Fits what (pick d s (movedTo (skipOf t (s .cursor)) s)) → Fits what s
+      by : (d : Bool) (what : Crossed) → Fits what (pick d s (movedTo (skipOf (rules .white) t (s .cursor)) s)) → Fits what s
       by true what f = f
       by false Plain f = f
       by false Piece f = f

@@ -1,3 +1,4 @@
+pub mod Rules
 pub mod States
 pub mod Steps
 pub mod Script

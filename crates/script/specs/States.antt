@@ -10,15 +10,19 @@ use Rattle.token.specs.Tokens as Tokens
 use Rattle.chars.specs.Cursors.{cursor}
 use Rattle.chars.specs.declared.cursor.Cursor.{Cursor}
 use Rattle.script.specs.declared.State.{State}
-use Rattle.script.specs.declared.Passed.{Passed}
-use Rattle.script.specs.declared.Passed.the-variants.{Plain, Piece, Token}
+use Rattle.script.specs.declared.Crossed.{Crossed}
+use Rattle.script.specs.declared.Crossed.the-variants.{Plain, Piece, Token}
 
 abbrev pub state : Cursor → ℕ → List ℕ → Bool → State
 state c n bs d = record { cursor = c; level = n; braces = bs; due = d }
 
--- where a run begins
-unfoldable pub begun : State
-begun = state (cursor 0 Place.start) 0 (replicate 16 0) false
+-- where a run begins, behind a cursor
+unfoldable pub begunAt : Cursor → State
+begunAt c = state c 0 (replicate 16 0) false
+
+-- the run over a whole script begins at START
+abbrev pub begun : State
+begun = begunAt (cursor 0 Place.start)
 
 -- behind something that opens and closes nothing
 unfoldable pub movedTo : Cursor → State → State
@@ -53,7 +57,7 @@ unfoldable pub behind : ℕ → Cursor → State → State
 behind t c s = pick (either (eqb t Tokens.LeftBrace) (eqb t Tokens.MapStart)) (opened c s) (pick (eqb t Tokens.RightBrace) (closed c s) (movedTo c s))
 
 -- where a run stands behind what it has passed
-unfoldable pub behindOf : Passed → Cursor → State → State
+unfoldable pub behindOf : Crossed → Cursor → State → State
 behindOf Plain c s = movedTo c s
 behindOf Piece c s = interpolated c s
 behindOf (Token t) c s = behind t c s
@@ -65,7 +69,7 @@ pub record Fine (s : State) : Type 0 where
   pub short : s .cursor .at ≤ 16777216
 
 -- an interpolation more is opened only where there are not sixteen
-abbrev pub Fits : Passed → State → Type 0
+abbrev pub Fits : Crossed → State → Type 0
 Fits Plain s = Unit {0}
 Fits Piece s = s .level < 16
 Fits (Token t) s = Unit {0}

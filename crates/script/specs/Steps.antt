@@ -1,105 +1,105 @@
 -- One step of a run by the unlimited rules: document 01, "Run".
-use Prim.Native.Nat.{ℕ, _-_}
+use Prim.Native.Nat.{ℕ}
 use mathlib.Core.List.{List, []}
 use lib.Dec.{eqb, leb}
 use lib.ListN.{length}
+use Rattle.basis.specs.Types.{Bytes, Text}
 use Rattle.basis.specs.Pick.{pick, isnt}
-use Rattle.position.specs.declared.Position.{Position}
 use Rattle.position.specs.Place.{advanced}
 use Rattle.utf8.specs.Table.{chars}
-use Rattle.white.specs.White.{isWhite}
+use Rattle.classes.specs.Marks.{hash, apostrophe}
+use Rattle.chars.specs.Cursors.{cursor}
 use Rattle.chars.specs.declared.cursor.Cursor.{Cursor}
-use Rattle.fault.specs.declared.Part.{Part}
-use Rattle.fault.specs.declared.Fault.{Fault}
-use Rattle.fault.specs.Faults.{part, stillOpen}
+use Rattle.fault.specs.Faults.{stillOpen, notOneCharacter, tooDeep}
+use Rattle.entry.specs.Kinds as Kind
 use Rattle.literal.specs.declared.End.{End}
 use Rattle.literal.specs.Trace.{Trace, bytes, final, Outcome, good, bad}
-use Rattle.raw.specs.Raw.{readOf, asSource}
-use Rattle.string_turn.specs.Kinds.{quote, apostrophe, backtick}
-use Rattle.string.specs.Reading.{readingOf}
-use Rattle.find.specs.Find as Find
-use Rattle.find.specs.Find.{findOf}
+use Rattle.raw.specs.Raw.{readOf}
+use Rattle.string.specs.Reading.{stringReading}
+use Rattle.find.specs.Find.{opensText, findOf}
+use Rattle.find.specs.declared.Opener.{Opener}
 use Rattle.find.specs.declared.Found.{Found}
 use Rattle.find.specs.declared.Found.the-variants as found
-use Rattle.reading.specs.Reading.{Reading, halts, spoils, lists, reads}
 use Rattle.reading.specs.Reading as Reading
-use Rattle.script.specs.declared.State.{State}
+use Rattle.reading.specs.Reading.{Token, Reading, finishes, halts, spoils, lists, reads}
+use Rattle.script.specs.Rules.{Rules}
 use Rattle.script.specs.States.{movedTo, interpolated, behind}
+use Rattle.script.specs.declared.State.{State}
+use Rattle.script.specs.declared.Verdict.{Verdict}
+use Rattle.script.specs.declared.Verdict.the-variants.{Fine, Wrong}
 
--- what a step puts in front of the reading of the rest: nothing; a token, of a kind, at a place, which is a part of the script; or a literal, of a kind, from a cursor on
+-- what a step puts in front of the reading of the rest: nothing; a token that is a part of the script; or a literal
 pub data Note : Type 0 where
   nothing : Note
-  token : ℕ → Position → Part → Note
-  literal : ℕ → Cursor → Trace → Note
+  token : Token → Note
+  literal : Token → Trace → Note
 
 abbrev pub noted : Note → Reading → Reading
 noted nothing r = r
-noted (token k p q) r = lists k p q r
-noted (literal k from t) r = reads k from t r
+noted (token k) r = lists k r
+noted (literal k t) r = reads k t r
 
 -- the literal bytes of it
 abbrev pub packedOf : Note → List ℕ
 packedOf nothing = []
-packedOf (token k p q) = []
-packedOf (literal k from t) = bytes t
+packedOf (token k) = []
+packedOf (literal k t) = bytes t
 
--- one step: on to a state, with a note; or the reading is over
+-- one step: on to a state, with a note; or the last one, which has the rest of the reading
 pub data Step : Type 0 where
   on : Note → State → Step
-  over : Reading → Step
+  last : Reading → Step
 
--- the terminator of a kind of string literal
-unfoldable pub terminatorOf : ℕ → ℕ
-terminatorOf k = pick (eqb k Find.string) quote (pick (eqb k Find.char) apostrophe backtick)
+-- the reading of a literal from behind what opens it
+unfoldable pub literalTrace : Rules → Text → Opener → Cursor → Trace
+literalTrace rules t o from = pick (eqb (o .terminator) hash) (readOf (rules .newlines) t from 0) (stringReading (rules .white) t (o .terminator) from)
 
--- the reading of a literal of a kind from a cursor
-unfoldable pub traceOf : List ℕ → ℕ → Cursor → Trace
-traceOf t k from = pick (eqb k Find.raw) (readOf asSource t from 0) (readingOf isWhite t (terminatorOf k) from)
+-- what is to be said of a literal that its scan accepts: 11 at the cursor where it is still open; 13 at its start where `${` ends it and sixteen interpolations are open; 12 at its start where a `'` literal is not one character
+unfoldable pub verdictOf : Opener → ℕ → Cursor → End → Bytes → Verdict
+verdictOf o level from e body =
+    pick (isnt (eqb (e .on_record .times) 0)) (Wrong (stillOpen (e .cursor .place)))
+    (pick (e .interpolated) (pick (leb 16 level) (Wrong (tooDeep (from .place))) Fine)
+    (pick (eqb (o .terminator) apostrophe) (pick (eqb (length (chars body)) 1) Fine (Wrong (notOneCharacter (from .place)))) Fine))
 
--- the kind of a piece of text that `${` ended
-abbrev pub interpolatedText : ℕ
-interpolatedText = 6
-
--- a fault of a literal that its scan accepts, or 0: 11 where it is still open, 13 where `${` ends it and sixteen interpolations are open, 12 where a `'` literal is not one character
-unfoldable pub wrongOf : ℕ → ℕ → End → List ℕ → ℕ
-wrongOf k level e body =
-    pick (isnt (eqb (e .on_record .times) 0)) 11
-    (pick (e .interpolated) (pick (leb 16 level) 13 0)
-    (pick (eqb k Find.char) (pick (eqb (length (chars body)) 1) 0 12) 0))
-
--- the fault by that number: 11 is at the cursor, the others at the literal's start
-unfoldable pub faultOf : ℕ → Cursor → End → Fault
-faultOf n from e = pick (eqb n 11) (stillOpen (e .cursor .place)) (record { number = n; place = from .place; part = part 0 0 })
+-- where a literal starts: at its opener, which stands where the run does; a text that goes on, behind its `}`
+abbrev pub startOf : Cursor → State → Cursor
+startOf from s = cursor (s .cursor .at) (from .place)
 
 -- a literal that is listed: a piece of text that `${` ends opens an interpolation
-unfoldable pub listedOf : ℕ → Cursor → Trace → End → State → Step
-listedOf k from t e s = pick (e .interpolated) (on (literal interpolatedText from t) (interpolated (e .cursor) s)) (on (literal k from t) (movedTo (e .cursor) s))
+unfoldable pub listedOf : Opener → Cursor → Trace → End → State → Step
+listedOf o from t e s =
+    pick (e .interpolated) (on (literal (Reading.token Kind.interpolated (startOf from s) (e .cursor)) t) (interpolated (e .cursor) s))
+    (on (literal (Reading.token (o .kind) (startOf from s) (e .cursor)) t) (movedTo (e .cursor) s))
+
+abbrev pub onVerdict : Opener → Cursor → Trace → End → State → Verdict → Step
+onVerdict o from t e s Fine = listedOf o from t e s
+onVerdict o from t e s (Wrong f) = last (spoils (startOf from s) t f)
 
 -- what comes of a literal's reading
-abbrev pub onEnd : ℕ → Cursor → Trace → State → Outcome → Step
-onEnd k from t s (bad f) = over (spoils from t (f .fault))
-onEnd k from t s (good e) = let n = wrongOf k (s .level) e (bytes t) in pick (eqb n 0) (listedOf k from t e s) (over (spoils from t (faultOf n from e)))
+abbrev pub onEnd : Opener → Cursor → Trace → State → Outcome → Step
+onEnd o from t s (bad f) = last (spoils (startOf from s) t (f .fault))
+onEnd o from t s (good e) = onVerdict o from t e s (verdictOf o (s .level) from e (bytes t))
 
--- a literal of a kind from a cursor
-unfoldable pub literalOf : List ℕ → ℕ → Cursor → State → Step
-literalOf t k from s = onEnd k from (traceOf t k from) s (final (traceOf t k from))
+-- a literal from behind what opens it
+unfoldable pub literalStep : Rules → Text → Opener → Cursor → State → Step
+literalStep rules t o from s = onEnd o from (literalTrace rules t o from) s (final (literalTrace rules t o from))
 
 -- where the script ends: 11 at the cursor where an interpolation is open
-unfoldable pub endOf : State → Step
-endOf s = over (pick (eqb (s .level) 0) (Reading.over (s .cursor .place)) (halts (stillOpen (s .cursor .place))))
+unfoldable pub endStep : State → Step
+endStep s = last (pick (eqb (s .level) 0) (finishes (s .cursor .place)) (halts (stillOpen (s .cursor .place))))
 
 -- a token that is a part of the script, up to a cursor
-abbrev pub partOf : ℕ → ℕ → Cursor → State → Step
-partOf k w c s = on (token k (advanced (s .cursor .place)) (part (s .cursor .at) (c .at - s .cursor .at))) (behind w c s)
+abbrev pub partStep : ℕ → ℕ → Cursor → State → Step
+partStep k w c s = on (token (Reading.token k (cursor (s .cursor .at) (advanced (s .cursor .place))) c)) (behind w c s)
 
 -- what comes of what begins here
-abbrev pub onFound : List ℕ → State → Found → Step
-onFound t s (found.White c) = on nothing (movedTo c s)
-onFound t s (found.Part k w c) = partOf k w c s
-onFound t s (found.Literal k from) = literalOf t k from s
-onFound t s (found.Wrong f) = over (halts f)
-onFound t s found.End = endOf s
+abbrev pub onFound : Rules → Text → State → Found → Step
+onFound rules t s (found.White c) = on nothing (movedTo c s)
+onFound rules t s (found.Part k w c) = partStep k w c s
+onFound rules t s (found.Literal o from) = literalStep rules t o from s
+onFound rules t s (found.Wrong f) = last (halts f)
+onFound rules t s found.End = endStep s
 
 -- one step: a text that is due goes on from its `}`; else what begins here
-unfoldable pub stepOf : List ℕ → List ℕ → State → Step
-stepOf t book s = pick (s .due) (literalOf t Find.text (s .cursor) s) (onFound t s (findOf t book (s .cursor)))
+unfoldable pub stepOf : Rules → Text → Bytes → State → Step
+stepOf rules t book s = pick (s .due) (literalStep rules t opensText (s .cursor) s) (onFound rules t s (findOf (rules .white) t book (s .cursor)))

@@ -1,10 +1,10 @@
 // Where a run over a script stands: the Rust's TokenizeState, by value. specs/ has the reading of a script by the unlimited rules.
 ghost use mathlib.Core.Path.{_≡_};
 ghost use Prim.Native.Nat.{_<_};
-ghost use Rattle.script.specs.States.{begun, movedTo, interpolated, opened, closed, Fine, Fits, behindOf};
+ghost use Rattle.script.specs.States.{begunAt, movedTo, interpolated, opened, closed, Fine, Fits, behindOf};
 ghost use Rattle.script.specs.Counts.{passedOf, counts};
 use chars::cursor::Cursor;
-use position::Position;
+use fault::Fault;
 use token::tokens;
 
 pub struct State {
@@ -18,34 +18,40 @@ pub struct State {
     pub due: bool,
 }
 
+// What is to be said of a literal that its scan accepts: nothing, or that it is wrong in a run.
+pub enum Verdict {
+    Fine,
+    Wrong(Fault),
+}
+
 // What a run has passed: something that opens and closes nothing, a piece of text that `${` ended, or the Rust's token.
-pub enum Passed {
+pub enum Crossed {
     Plain,
     Piece,
     Token(u8),
 }
 
-impl Passed {
-    // Inner: a piece of text that `${` ended, or the Rust's token. A turn answers by these two numbers, which the machine carries
+impl Crossed {
+    // A piece of text that `${` ended, or the Rust's token. A turn answers by these two numbers, which the machine carries
     // faster than this enum.
-    pub fn given(piece: bool, token: u8) -> Passed
+    pub fn given(piece: bool, token: u8) -> Crossed
         ensures { λ r. ⌜ r ≡ passedOf piece token ⌝ }
     {
         if piece {
-            return Passed::Piece;
+            return Crossed::Piece;
         }
-        Passed::Token(token)
+        Crossed::Token(token)
     }
 
-    // Inner: whether braces are to be counted behind it, with so many interpolations open. Behind anything else a run only stands
+    // Whether braces are to be counted behind it, with so many interpolations open. Behind anything else a run only stands
     // further on.
     pub fn counts(self, level: usize) -> bool
         ensures { λ r. ⌜ r ≡ counts level self ⌝ }
     {
         match self {
-            Passed::Plain => false,
-            Passed::Piece => true,
-            Passed::Token(token) => {
+            Crossed::Plain => false,
+            Crossed::Piece => true,
+            Crossed::Token(token) => {
                 if level == 0 {
                     return false;
                 }
@@ -141,30 +147,27 @@ fn closed(to: Cursor, s: State) -> State
 }
 
 impl State {
-    // Inner: where a run begins.
-    pub fn begun() -> State
-        ensures { λ r. ⌜ r ≡ begun ⌝ }
+    // Where a run begins, behind a cursor.
+    pub fn begun(cursor: Cursor) -> State
+        ensures { λ r. ⌜ r ≡ begunAt cursor ⌝ }
     {
         State {
-            cursor: Cursor {
-                at: 0,
-                place: Position::START,
-            },
+            cursor,
             level: 0,
             braces: [0; 16],
             due: false,
         }
     }
 
-    // Inner: where a run stands behind what it has passed.
-    pub fn behind(self, what: Passed, to: Cursor) -> State
+    // Where a run stands behind what it has passed.
+    pub fn behind(self, what: Crossed, to: Cursor) -> State
         requires { ⌜ Fine self × Fits what self ⌝ }
         ensures { λ r. ⌜ r ≡ behindOf what to self ⌝ }
     {
         match what {
-            Passed::Plain => moved_to(to, self),
-            Passed::Piece => interpolated(to, self),
-            Passed::Token(token) => {
+            Crossed::Plain => moved_to(to, self),
+            Crossed::Piece => interpolated(to, self),
+            Crossed::Token(token) => {
                 if token == tokens::LEFT_BRACE {
                     return opened(to, self);
                 }

@@ -60,7 +60,7 @@ number-returns c =
 white-returns : tie.Need-returns-4
 white-returns c =
     let k = no-word (no-digit (c .before .before .before)) in
-    c .white .ensures ∙ rw (call k .before .advanced .ensures) (sym (finds-white _ _ _ (seen k) (sym (c .before .before .is-white .ensures) ∙ c .before .if3 .taken)))
+    c .white .ensures ∙ rw (call k .before .advanced .ensures) (sym (finds-white _ _ _ _ (seen k) (sym (c .before .before .is-white .ensures) ∙ c .before .if3 .taken)))
 
 mark-returns : tie.Need-returns-5
 mark-returns c =
@@ -78,7 +78,7 @@ find-spec =
     (λ c κs. search needs)
     (λ c. search needs)
     (λ c. search needs)
-    (λ c. sym (nothing-more _ _ _ (sym (c .before .before .look-at .ensures) ∙ c .enum-told .given .1)))
+    (λ c. sym (nothing-more _ _ _ _ (sym (c .before .before .look-at .ensures) ∙ c .enum-told .given .1)))
     (λ c. omega (arith, wide c))
     (λ c κs. search needs)
     (λ c κs. search needs)

@@ -1,7 +1,7 @@
 -- What each sign begins. A comment's two characters are within the script.
 use mathlib.Core.Path.{sym, _∙_}
 use borrow.Author.Needs.{needs}
-use Rattle.find.specs.Find.{lineOf}
+use Rattle.find.specs.Find.{lineComment}
 use Rattle.find.proofs.Begins.{block-within, signed}
 use Rattle.find.proofs.mark.Statement.{statement}
 use Rattle.find.proofs.mark.Tie as tie
@@ -18,7 +18,7 @@ literal-returns c =
     sym (signed _ _ _ _ _ (sym (call .sign-at .ensures) ∙ c .before .sign .given .1))
 
 line-returns : tie.Need-returns-2
-unfolding lineOf
+unfolding lineComment
 line-returns c =
     let told = c .before .before in
     let call = told .before .before in

@@ -16,7 +16,7 @@ use Rattle.find.proofs.skip.Statement.{statement}
 use Rattle.find.proofs.skip.Tie as tie
 
 abbrev Inv-loop : tie.InvT-loop
-Inv-loop text at₀ place₀ at place = Skipping text (cursor at₀ place₀) (cursor at place)
+Inv-loop text at₀ place₀ at place = Skipping isWhite text (cursor at₀ place₀) (cursor at place)
 
 abbrev μ-loop : tie.MeasureT-loop
 μ-loop text at₀ place₀ at place = length text - at
@@ -49,25 +49,25 @@ whitened : (k : tie.Then2 Inv-loop μ-loop) → isWhite (c (k .before .before .b
 whitened k = sym (k .before .is-white .ensures) ∙ k .if2 .taken
 
 end-returns : tie.Need-returns Inv-loop μ-loop
-end-returns c = let call = c .before .before in sym (skip-end _ _ (call .before .loop .inv) (sym (call .look-at .ensures) ∙ c .enum-told .given .1))
+end-returns c = let call = c .before .before in sym (skip-end _ _ _ (call .before .loop .inv) (sym (call .look-at .ensures) ∙ c .enum-told .given .1))
 
 beyond-returns : tie.Need-returns-2 Inv-loop μ-loop
-beyond-returns c = let k = c .before in sym (skip-beyond _ _ (call k .before .loop .inv) (seen k) (c .if1 .taken))
+beyond-returns c = let k = c .before in sym (skip-beyond _ _ _ (call k .before .loop .inv) (seen k) (c .if1 .taken))
 
 other-returns : tie.Need-returns-3 Inv-loop μ-loop
-other-returns c = let k = c .before .before .before in sym (skip-other _ _ (call k .before .loop .inv) (seen k) (sym (c .before .is-white .ensures) ∙ c .if2 .left))
+other-returns c = let k = c .before .before .before in sym (skip-other _ _ _ (call k .before .loop .inv) (seen k) (sym (c .before .is-white .ensures) ∙ c .if2 .left))
 
 line-again : tie.Need-loop-again Inv-loop μ-loop
 line-again c =
     let white = c .before .before .before in
     let k = white .before .before .before in
-    rw (c .lined .ensures, c .before .before .advanced .ensures) (skip-line _ _ (call k .before .loop .inv) (seen k) (white .before .before .if1 .left) (whitened white) (c .before .if3 .taken))
+    rw (c .lined .ensures, c .before .before .advanced .ensures) (skip-line _ _ _ (call k .before .loop .inv) (seen k) (white .before .before .if1 .left) (whitened white) (c .before .if3 .taken))
 
 other-again : tie.Need-loop-again-2 Inv-loop μ-loop
 other-again c =
     let white = c .before .before in
     let k = white .before .before .before in
-    rw (c .before .advanced .ensures) (skip-more _ _ (call k .before .loop .inv) (seen k) (white .before .before .if1 .left) (whitened white) (c .if3 .left))
+    rw (c .before .advanced .ensures) (skip-more _ _ _ (call k .before .loop .inv) (seen k) (white .before .before .if1 .left) (whitened white) (c .if3 .left))
 
 pub skip-spec : {M : Type 1} → statement M
 skip-spec =
@@ -75,7 +75,7 @@ skip-spec =
     (tie.spec
     Inv-loop
     μ-loop
-    (λ c. skip-begun _ _)
+    (λ c. skip-begun _ _ _)
     (λ c κs. search needs)
     (λ c. search needs)
     (λ c. search needs)
@@ -85,8 +85,8 @@ skip-spec =
     (λ c. omega (arith, wide (c .before .before .before)))
     (λ c κs. search needs)
     (λ c κs. search needs)
-    (λ c. omega (arith, wide (c .before .before .before .before .before .before)))
+    (λ c. let here = c .before .before .before .before .before .before in omega (arith, wide here))
     line-again
-    (λ c. omega (arith, wide (c .before .before .before .before .before)))
+    (λ c. let here = c .before .before .before .before .before in omega (arith, wide here))
     other-again
     other-returns)

@@ -26,6 +26,11 @@ module _ (k : tie.After-known-told) where
   room : (0 < k .before .token .given .0 .1 .0) × (begin .args .at + k .before .token .given .0 .1 .0 ≤ length (begin .args .text .now))
   room = offset-within _ _ _ _ found
 
+wrong-returns : tie.Need-returns
+wrong-returns c =
+    let told = c .before in
+    rw (c .about .ensures) (sym (no-symbol _ _ _ (sym (from-offset _ _ _ (told .before .before .longest-of .ensures)) ∙ told .enum-told .given .1)))
+
 pub symbol-spec : {M : Type 1} → statement M
 symbol-spec =
     tie.close
@@ -36,7 +41,8 @@ symbol-spec =
     (λ c κs. search needs)
     (λ c. search needs)
     (λ c. search needs)
-    (λ c. sym (no-symbol _ _ _ (sym (from-offset _ _ _ (c .before .before .longest-of .ensures)) ∙ c .enum-told .given .1)))
+    (λ c κs. search needs)
+    wrong-returns
     (λ c. omega (arith, room c))
     (λ c κs. search needs)
     (λ c. omega (arith, room (c .before)))
