@@ -5,23 +5,25 @@ use native.Mathlib.Nat.{add-zero, add-assoc}
 use mathlib.Core.Bool.{false}
 use mathlib.Core.List.{List}
 use mathlib.Core.Path.{_≡_, sym, ap, subst, _∙_}
-use lib.Dec.{ltb}
 use lib.ListN.{length, length-append}
 use lib.Seq.{sets, length-sets}
 use Rattle.basis.proofs.Stores.{sets-append}
-use Rattle.reading.specs.Reading.{Left, ended, more}
-use Rattle.reading.specs.CutRun.{Bounds, cutRun}
-use Rattle.reading.specs.Entries.{laidOut}
-use Rattle.reading.specs.declared.Entry.{Entry}
+use Rattle.reading.specs.Reading.{Kept, Left, entries, literalBytes, nothingMore, more}
+use Rattle.reading.specs.CutRun.{cutRun}
+use Rattle.reading.specs.declared.Bounds.{Bounds}
+use Rattle.entry.specs.Entries.{laidOut}
+use Rattle.entry.specs.declared.Entry.{Entry}
 use Rattle.reading.specs.declared.Ending.{Ending}
-use Rattle.script.specs.Steps.{stepOf}
+use Rattle.script.specs.Rules.{Rules}
+use Rattle.script.specs.Steps.{Step, stepOf}
 use Rattle.script.specs.declared.State.{State}
-use Rattle.script.specs.declared.Passed.{Passed}
+use Rattle.script.specs.declared.Crossed.{Crossed}
 use Rattle.script.specs.States.{state, movedTo, behindOf, Fine, Fits}
 use Rattle.script.specs.Counts.{passedOf}
 use Rattle.script.specs.Skips.{skipped}
 use Rattle.script.proofs.Skips.{skips, skipped-moved, skipped-behind, skipped-fits}
-use Rattle.turn.specs.Turns.{within, Went, went, turnOf, keptOf, bytesOf, ledBy, led, Leads}
+use Rattle.turn.specs.Turns.{Went, went, stepBytes, ledBy, led, Turns}
+use Rattle.turn.proofs.Cuts.{stepValues}
 use Rattle.turn.specs.declared.Next.{Next}
 use Rattle.turn.specs.declared.Next.the-variants.{On, Listed, Over}
 use Rattle.turn.specs.declared.Turned.{Turned}
@@ -41,46 +43,46 @@ module _ (index : ℕ → ℕ) (laid : Entry → List ℕ) where
   unfoldable pub finish : List ℕ → List ℕ → ℕ → ℕ → Left → Finished
   finish es ls n used l = record {
     ending = l .ending;
-    listed = n + length (l .listed);
-    used = used + length (l .packed);
-    entries = sets es (index n) (laidOut laid (l .listed));
-    literals = sets ls used (l .packed);
+    listed = n + length (entries (l .tokens));
+    used = used + length (literalBytes (l .tokens));
+    entries = sets es (index n) (laidOut laid (entries (l .tokens)));
+    literals = sets ls used (literalBytes (l .tokens));
   }
 
   -- nothing is left
-  pub finish-over : (es ls : List ℕ) (n used : ℕ) (e : Ending) → finish es ls n used (ended e) ≡ record { ending = e; listed = n; used = used; entries = es; literals = ls }
-  unfolding finish laidOut
+  pub finish-over : (es ls : List ℕ) (n used : ℕ) (e : Ending) → finish es ls n used (nothingMore e) ≡ record { ending = e; listed = n; used = used; entries = es; literals = ls }
+  unfolding finish laidOut entries literalBytes
   finish-over es ls n used e = rw (add-zero n, add-zero used)
 
-  -- an entry more
-  pub finish-more : (es ls : List ℕ) (n used : ℕ) (e : Entry) (bs : List ℕ) (l : Left) → index n + length (laid e) ≡ index (n + 1)
-      → finish es ls n used (more e bs l) ≡ finish (sets es (index n) (laid e)) (sets ls used bs) (n + 1) (used + length bs) l
-  unfolding finish laidOut
-  finish-more es ls n used e bs l h =
+  -- a token more
+  pub finish-more : (es ls : List ℕ) (n used : ℕ) (k : Kept) (l : Left) → index n + length (laid (k .entry)) ≡ index (n + 1)
+      → finish es ls n used (more k l) ≡ finish (sets es (index n) (laid (k .entry))) (sets ls used (k .bytes)) (n + 1) (used + length (k .bytes)) l
+  unfolding finish laidOut entries literalBytes
+  finish-more es ls n used k l h =
       rw (
-        sets-append es (index n) (laid e) (laidOut laid (l .listed)),
-        sets-append ls used bs (l .packed),
+        sets-append es (index n) (laid (k .entry)) (laidOut laid (entries (l .tokens))),
+        sets-append ls used (k .bytes) (literalBytes (l .tokens)),
         h,
-        length-append bs (l .packed),
-        sym (add-assoc used (length bs) (length (l .packed))),
+        length-append (k .bytes) (literalBytes (l .tokens)),
+        sym (add-assoc used (length (k .bytes)) (length (literalBytes (l .tokens)))),
         next-count,
       )
     where
-      next-count : n + suc (length (l .listed)) ≡ n + 1 + length (l .listed)
+      next-count : n + suc (length (entries (l .tokens))) ≡ n + 1 + length (entries (l .tokens))
       next-count = omega arith
 
-module _ (index : ℕ → ℕ) (laid : Entry → List ℕ) (t book : List ℕ) (b : Bounds) where
+module _ (index : ℕ → ℕ) (laid : Entry → List ℕ) (rules : Rules) (t book : List ℕ) (b : Bounds) where
   -- between two turns: the run stands well, the memory is as long as it was, and what it will have left is what it would have left from the start
   pub record Running (es₀ ls₀ : List ℕ) (s₀ : State) (s : State) (n used : ℕ) (es ls : List ℕ) : Type 0 where
     pub stands : Stands t b s n used
     pub room : length ls ≡ b .literals
     pub entries : length es ≡ length es₀
-    pub same : finish index laid es ls n used (left t book b s n used) ≡ finish index laid es₀ ls₀ 0 0 (left t book b s₀ 0 0)
+    pub same : finish index laid es ls n used (left rules t book b s n used) ≡ finish index laid es₀ ls₀ 0 0 (left rules t book b s₀ 0 0)
 
   -- behind the white space that is skipped a run stands as well, and nothing else is left
-  skipped-stands : length t ≤ 16777216 → {s : State} {n used : ℕ} → Stands t b s n used → Stands t b (skipped t s) n used
+  skipped-stands : length t ≤ 16777216 → {s : State} {n used : ℕ} → Stands t b s n used → Stands t b (skipped rules t s) n used
   skipped-stands small {s} stands =
-      let k = skips t book s in record {
+      let k = skips rules t book s in record {
         fine = k .fine (stands .within) small (stands .fine);
         within = k .within (stands .within);
         room = stands .room;
@@ -91,39 +93,37 @@ module _ (index : ℕ → ℕ) (laid : Entry → List ℕ) (t book : List ℕ) (
 
   -- what is known behind a turn that leads there, from behind the white space
   abbrev After-turn : State → ℕ → ℕ → List ℕ → List ℕ → Went → Type 0
-  After-turn s n used ls ls′ w = After t book b (skipped t s) n used ls ls′ w (w .next)
+  After-turn s n used ls ls′ w = After rules t book b (skipped rules t s) n used ls ls′ w (w .next)
 
   module _ (small : length t ≤ 16777216) {es₀ ls₀ : List ℕ} {s₀ s : State} {n used : ℕ} {es ls : List ℕ} (run : Running es₀ ls₀ s₀ s n used es ls) (r : Turned) {ls′ : List ℕ}
-      (told : Leads (skipped t s) r (turnOf (within (b .limit) (length ls)) (ltb n (b .entries)) used (skipped t s) (stepOf t book (skipped t s))))
-      (kept : ls′ ≡ keptOf (within (b .limit) (length ls)) (ltb n (b .entries)) used (stepOf t book (skipped t s)) ls) where
-    after : After-turn s n used ls ls′ (led (skipped t s) r)
-    after = turn-after t book b (skipped t s) n used small (skipped-stands small (run .stands)) ls (led (skipped t s) r) ls′ (told .0 ∙ ap (λ (m : ℕ). turnOf (within (b .limit) m) (ltb n (b .entries)) used (skipped t s) (stepOf t book (skipped t s))) (run .room))
-        (kept ∙ ap (λ (m : ℕ). keptOf (within (b .limit) m) (ltb n (b .entries)) used (stepOf t book (skipped t s)) ls) (run .room))
+      (told : Turns b n used (skipped rules t s) (stepOf rules t book (skipped rules t s)) r ls ls′) where
+    after : After-turn s n used ls ls′ (led (skipped rules t s) r)
+    after = turn-after rules t book b (skipped rules t s) n used small (skipped-stands small (run .stands)) ls (led (skipped rules t s) r) ls′ (told .leads .0) (told .literals)
 
     -- by what the turn came to
-    after-next : {next : Next} → r .next ≡ next → After-turn s n used ls ls′ (ledBy (skipped t s) (passedOf (r .piece) (r .token)) (r .to) (r .used) next)
-    after-next q = subst (After-turn s n used ls ls′) (ap (ledBy (skipped t s) (passedOf (r .piece) (r .token)) (r .to) (r .used)) q) after
+    after-next : {next : Next} → r .next ≡ next → After-turn s n used ls ls′ (ledBy (skipped rules t s) (passedOf (r .piece) (r .token)) (r .to) (r .used) next)
+    after-next q = subst (After-turn s n used ls ls′) (ap (ledBy (skipped rules t s) (passedOf (r .piece) (r .token)) (r .to) (r .used)) q) after
 
     -- what is left here is left behind the white space
-    left-skipped : left t book b s n used ≡ left t book b (skipped t s) n used
-    left-skipped = ap (cutRun b n used) (skips t book s .reads)
+    left-skipped : left rules t book b s n used ≡ left rules t book b (skipped rules t s) n used
+    left-skipped = ap (cutRun b n used) (skips rules t book s .reads)
 
     -- the state's own method may be called
-    pub run-fine : {what : Passed} → what ≡ passedOf (r .piece) (r .token) → Fine s × Fits what s
-    run-fine d = (run .stands .fine, rw d (skipped-fits t s (passedOf (r .piece) (r .token)) (told .1)))
+    pub run-fine : {what : Crossed} → what ≡ passedOf (r .piece) (r .token) → Fine s × Fits what s
+    run-fine d = (run .stands .fine, rw d (skipped-fits rules t s (passedOf (r .piece) (r .token)) (told .leads .1)))
 
     -- a turn that lists nothing
     pub run-on : r .next ≡ On → (s .cursor .at < r .to .at) × Running es₀ ls₀ s₀ (state (r .to) (s .level) (s .braces) false) n used es ls′
-    run-on q = rw (skipped-moved t s (r .to)) at (on (after-next q))
+    run-on q = rw (skipped-moved rules t s (r .to)) at (on (after-next q))
       where
-        on : After t book b (skipped t s) n used ls ls′ (went (movedTo (r .to) (skipped t s)) (r .used) On) On → (s .cursor .at < movedTo (r .to) (skipped t s) .cursor .at) × Running es₀ ls₀ s₀ (movedTo (r .to) (skipped t s)) n used es ls′
+        on : After rules t book b (skipped rules t s) n used ls ls′ (went (movedTo (r .to) (skipped rules t s)) (r .used) On) On → (s .cursor .at < movedTo (r .to) (skipped rules t s) .cursor .at) × Running es₀ ls₀ s₀ (movedTo (r .to) (skipped rules t s)) n used es ls′
         on (f, m, l, u, k) = (
-          omega (arith, f, skips t book s .forward),
+          omega (arith, f, skips rules t book s .forward),
           record {
             stands = rw u at m;
             room = rw k (run .room);
             entries = run .entries;
-            same = ap (finish index laid es ls′ n used) (sym (left-skipped ∙ l ∙ ap (left t book b (movedTo (r .to) (skipped t s)) n) u)) ∙ rw k (run .same);
+            same = ap (finish index laid es ls′ n used) (sym (left-skipped ∙ l ∙ ap (left rules t book b (movedTo (r .to) (skipped rules t s)) n) u)) ∙ rw k (run .same);
           },
         )
 
@@ -131,34 +131,37 @@ module _ (index : ℕ → ℕ) (laid : Entry → List ℕ) (t book : List ℕ) (
     pub run-listed : (e : Entry) → r .next ≡ Listed e → Small e × (n < b .entries)
     run-listed e q = let a = after-next q in (a .3, a .4)
 
-    pub run-more : (e : Entry) → r .next ≡ Listed e → index n + length (laid e) ≡ index (n + 1) → (es′ : List ℕ) → es′ ≡ sets es (index n) (laid e) → (what : Passed) → what ≡ passedOf (r .piece) (r .token) → (s′ : State) → s′ ≡ behindOf what (r .to) s
+    pub run-more : (e : Entry) → r .next ≡ Listed e → index n + length (laid e) ≡ index (n + 1) → (es′ : List ℕ) → es′ ≡ sets es (index n) (laid e) → (what : Crossed) → what ≡ passedOf (r .piece) (r .token) → (s′ : State) → s′ ≡ behindOf what (r .to) s
         → (s .cursor .at < s′ .cursor .at) × Running es₀ ls₀ s₀ s′ (n + 1) (r .used) es′ ls′
-    run-more e q h es′ p what g s′ d = rw (d, g, ← skipped-behind t s (passedOf (r .piece) (r .token)) (r .to)) (more-so (after-next q))
+    run-more e q h es′ p what g s′ d = rw (d, g, ← skipped-behind rules t s (passedOf (r .piece) (r .token)) (r .to)) (more-so (after-next q))
       where
+        step : Step
+        step = stepOf rules t book (skipped rules t s)
+
         bs : List ℕ
-        bs = bytesOf (stepOf t book (skipped t s))
+        bs = stepBytes step
 
         next : State
-        next = behindOf (passedOf (r .piece) (r .token)) (r .to) (skipped t s)
+        next = behindOf (passedOf (r .piece) (r .token)) (r .to) (skipped rules t s)
 
         stored : r .used ≡ used + length bs → ls′ ≡ sets ls used bs → (l : Left)
             → finish index laid es′ ls′ (n + 1) (r .used) l ≡ finish index laid (sets es (index n) (laid e)) (sets ls used bs) (n + 1) (used + length bs) l
         stored u k l = rw (p, k, u)
 
-        more-so : After t book b (skipped t s) n used ls ls′ (went next (r .used) (Listed e)) (Listed e) → (s .cursor .at < next .cursor .at) × Running es₀ ls₀ s₀ next (n + 1) (r .used) es′ ls′
+        more-so : After rules t book b (skipped rules t s) n used ls ls′ (went next (r .used) (Listed e)) (Listed e) → (s .cursor .at < next .cursor .at) × Running es₀ ls₀ s₀ next (n + 1) (r .used) es′ ls′
         more-so (f, m, l, z, g, u, k) = (
-          omega (arith, f, skips t book s .forward),
+          omega (arith, f, skips rules t book s .forward),
           record {
             stands = m;
             room = rw (k, length-sets ls used bs) (run .room);
             entries = rw (p, length-sets es (index n) (laid e)) (run .entries);
-            same = stored u k (left t book b next (n + 1) (r .used)) ∙ sym (finish-more index laid es ls n used e bs _ h) ∙ ap (finish index laid es ls n used) (sym (left-skipped ∙ l)) ∙ run .same;
+            same = stored u k (left rules t book b next (n + 1) (r .used)) ∙ sym (finish-more index laid es ls n used (record { entry = e; bytes = bs; values = stepValues step }) _ h) ∙ ap (finish index laid es ls n used) (sym (left-skipped ∙ l)) ∙ run .same;
           },
         )
 
     -- a turn that is over
     pub run-over : (e : Ending) → r .next ≡ Over e
-        → record { ending = e; listed = n; used = used; entries = es; literals = ls′ } ≡ finish index laid es₀ ls₀ 0 0 (left t book b s₀ 0 0)
+        → record { ending = e; listed = n; used = used; entries = es; literals = ls′ } ≡ finish index laid es₀ ls₀ 0 0 (left rules t book b s₀ 0 0)
     run-over e q =
         let a = after-next q in
         sym (rw (a .1) (finish-over index laid es ls n used e)) ∙ ap (finish index laid es ls n used) (sym (left-skipped ∙ a .0)) ∙ run .same

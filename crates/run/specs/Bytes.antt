@@ -2,9 +2,9 @@
 use Prim.Native.Nat.{ℕ}
 use mathlib.Core.List.{List}
 use Rattle.numbers.specs.Spell.{spelled}
-use Rattle.reading.specs.Entries.{numbersOf}
-use Rattle.reading.specs.declared.Entry.{Entry}
+use Rattle.entry.specs.Entries.{numbersOf}
+use Rattle.entry.specs.declared.Entry.{Entry}
 
 -- the five numbers, four bytes each
-unfoldable pub bytesOf : Entry → List ℕ
-bytesOf e = spelled 4 (numbersOf e)
+unfoldable pub entryBytes : Entry → List ℕ
+entryBytes e = spelled 4 (numbersOf e)

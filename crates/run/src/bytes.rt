@@ -1,28 +1,27 @@
-// The run over a script with its entries as bytes: document 01, "entries cross there as little-endian bytes, four per number".
+// The run over a script with its entries as bytes: document 01, "entries cross there as little-endian bytes, four per number". It
+// differs from the other in how an entry is stored, and in nothing else.
 ghost use mathlib.Core.Path.{_≡_};
 ghost use mathlib.Core.Bool.{true};
 ghost use Prim.Native.Nat.{_+_, _*_, _≤_};
 ghost use lib.ListN.{length};
 ghost use lib.Seq.{sets};
 ghost use Rattle.book.specs.Book.{good};
-ghost use Rattle.reading.specs.CutRun.{cutRun};
-ghost use Rattle.script.specs.Script.{scriptOf};
-ghost use Rattle.run.specs.Run.{boundsOf, runOf, ranOf, literalsOf, entriesOf};
-ghost use Rattle.run.specs.Bytes.{bytesOf};
+ghost use Rattle.run.specs.Run.{called, readCall, runCall};
+ghost use Rattle.run.specs.Bytes.{entryBytes};
 use crate::Ran;
-use fault::Fault;
-use fault::Part;
+use chars::cursor::Cursor;
+use entry::Entry;
 use position::Position;
-use reading::Ending;
-use reading::Entry;
-use script::Passed;
+use reading::Bounds;
+use script::Crossed;
 use script::State;
 use turn::Next;
+use turn::Room;
 
 // Puts an entry in as the n-th.
 fn store(e: Entry, n: usize, entries: &mut [u8])
     requires { ⌜ 20 * n + 20 ≤ length (now entries) ⌝ }
-    ensures { λ _. ⌜ now (entries .exit) ≡ sets (now (entries .entry)) (20 * n) (bytesOf e) ⌝ }
+    ensures { λ _. ⌜ now (entries .exit) ≡ sets (now (entries .entry)) (20 * n) (entryBytes e) ⌝ }
 {
     let place = e.place;
     let row: [u64; 5] = [
@@ -32,34 +31,34 @@ fn store(e: Entry, n: usize, entries: &mut [u8])
         e.at as u64,
         e.len as u64,
     ];
-    let at = 20 * n;
+    let at = Entry::BYTES * n;
     numbers::write_row(&row, 4, &mut entries[at..]);
 }
 
 // The tokens of a script that was let in, turn by turn.
 fn tokens(book: &[u8], script: &[u8], limit: usize, literals: &mut [u8], entries: &mut [u8]) -> Ran
     requires { ⌜ (good (now book) ≡ true) × (length (now script) ≤ 16777216) ⌝ }
-    ensures { λ r. ⌜ r ≡ ranOf (cutRun (boundsOf 20 limit (length (now (literals .entry))) (length (now (entries .entry)))) 0 0 (scriptOf (now (script .entry)) (now (book .entry)))) ⌝ }
-    ensures { λ r. ⌜ now (literals .exit) ≡ literalsOf (cutRun (boundsOf 20 limit (length (now (literals .entry))) (length (now (entries .entry)))) 0 0 (scriptOf (now (script .entry)) (now (book .entry)))) (now (literals .entry)) ⌝ }
-    ensures { λ r. ⌜ now (entries .exit) ≡ entriesOf bytesOf (cutRun (boundsOf 20 limit (length (now (literals .entry))) (length (now (entries .entry)))) 0 0 (scriptOf (now (script .entry)) (now (book .entry)))) (now (entries .entry)) ⌝ }
+    ensures { λ r. ⌜ called r (now (literals .exit)) (now (entries .exit)) ≡ readCall 20 entryBytes (now (script .entry)) (now (book .entry)) limit (now (literals .entry)) (now (entries .entry)) ⌝ }
 {
-    let room = entries.len() / 20;
-    let mut s = State::begun();
+    let bounds = Bounds {
+        limit,
+        literals: literals.len(),
+        entries: entries.len() / Entry::BYTES,
+    };
+    let mut s = State::begun(Cursor {
+        at: 0,
+        place: Position::START,
+    });
     let mut listed = 0;
     let mut used = 0;
     loop {
         let cursor = s.cursor;
-        let turned = turn::turn(
-            book,
-            script,
-            cursor,
-            s.level,
-            s.due,
-            limit,
-            listed < room,
+        let room = Room {
+            bounds,
+            listed,
             used,
-            &mut *literals,
-        );
+        };
+        let turned = turn::turn(book, script, cursor, s.level, s.due, room, &mut *literals);
         let to = turned.to;
         let next = turned.next;
         match next {
@@ -71,7 +70,7 @@ fn tokens(book: &[u8], script: &[u8], limit: usize, literals: &mut [u8], entries
                 store(entry, listed, &mut *entries);
                 listed += 1;
                 used = turned.used;
-                let passed = Passed::given(turned.piece, turned.token);
+                let passed = Crossed::given(turned.piece, turned.token);
                 if passed.counts(s.level) {
                     s = s.behind(passed, to);
                 } else {
@@ -90,23 +89,13 @@ fn tokens(book: &[u8], script: &[u8], limit: usize, literals: &mut [u8], entries
     }
 }
 
-// Inner: the run as in crate run, for the C name.
+// The run, as its other form.
 pub fn run(script: &[u8], book: &[u8], limit: usize, literals: &mut [u8], entries: &mut [u8]) -> Ran
-    ensures { λ r. ⌜ r ≡ ranOf (runOf (boundsOf 20 limit (length (now (literals .entry))) (length (now (entries .entry)))) (now (script .entry)) (now (book .entry))) ⌝ }
-    ensures { λ r. ⌜ now (literals .exit) ≡ literalsOf (runOf (boundsOf 20 limit (length (now (literals .entry))) (length (now (entries .entry)))) (now (script .entry)) (now (book .entry))) (now (literals .entry)) ⌝ }
-    ensures { λ r. ⌜ now (entries .exit) ≡ entriesOf bytesOf (runOf (boundsOf 20 limit (length (now (literals .entry))) (length (now (entries .entry)))) (now (script .entry)) (now (book .entry))) (now (entries .entry)) ⌝ }
+    ensures { λ r. ⌜ called r (now (literals .exit)) (now (entries .exit)) ≡ runCall 20 entryBytes (now (script .entry)) (now (book .entry)) limit (now (literals .entry)) (now (entries .entry)) ⌝ }
 {
     let number = door::run::refuses(script, book);
     if number == 0 {
         return tokens(book, script, limit, literals, entries);
     }
-    Ran {
-        ending: Ending::Stop(Fault {
-            number,
-            place: Position::START,
-            part: Part::NONE,
-        }),
-        listed: 0,
-        used: 0,
-    }
+    crate::refused(number)
 }

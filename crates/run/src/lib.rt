@@ -6,20 +6,23 @@ ghost use mathlib.Core.Bool.{true};
 ghost use Prim.Native.Nat.{_+_, _*_, _≤_};
 ghost use lib.ListN.{length};
 ghost use lib.Seq.{sets};
+ghost use Rattle.position.specs.Place.{start};
+ghost use Rattle.fault.specs.Faults.{fault};
 ghost use Rattle.book.specs.Book.{good};
-ghost use Rattle.reading.specs.Entries.{numbersOf};
-ghost use Rattle.reading.specs.CutRun.{cutRun};
-ghost use Rattle.script.specs.Script.{scriptOf};
-ghost use Rattle.script.specs.States.{begun};
-ghost use Rattle.run.specs.Run.{boundsOf, runOf, ranOf, literalsOf, entriesOf};
+ghost use Rattle.entry.specs.Entries.{numbersOf};
+ghost use Rattle.reading.specs.Reading.{nothingMore};
+ghost use Rattle.reading.specs.declared.Ending.the-variants.{Stop};
+ghost use Rattle.run.specs.Run.{ranOf, called, readCall, runCall};
+use chars::cursor::Cursor;
+use entry::Entry;
 use fault::Fault;
-use fault::Part;
 use position::Position;
+use reading::Bounds;
 use reading::Ending;
-use reading::Entry;
-use script::Passed;
+use script::Crossed;
 use script::State;
 use turn::Next;
+use turn::Room;
 
 // How a run ended, how many entries it listed, and how many literal bytes it used.
 pub struct Ran {
@@ -28,12 +31,23 @@ pub struct Ran {
     pub used: usize,
 }
 
+// What is refused at the door is refused at START, and nothing is listed.
+pub(crate) fn refused(number: u8) -> Ran
+    ensures { λ r. ⌜ r ≡ ranOf (nothingMore (Stop (fault number start))) ⌝ }
+{
+    Ran {
+        ending: Ending::Stop(Fault::at(number, Position::START)),
+        listed: 0,
+        used: 0,
+    }
+}
+
 // Puts an entry in as the n-th.
 fn store(e: Entry, n: usize, entries: &mut [u32])
     requires { ⌜ (e .at ≤ 4294967295) × (e .len ≤ 4294967295) × (5 * n + 5 ≤ length (now entries)) ⌝ }
     ensures { λ _. ⌜ now (entries .exit) ≡ sets (now (entries .entry)) (5 * n) (numbersOf e) ⌝ }
 {
-    let at = 5 * n;
+    let at = Entry::NUMBERS * n;
     let place = e.place;
     entries[at] = e.kind as u32;
     entries[at + 1] = place.line_number() as u32;
@@ -45,27 +59,27 @@ fn store(e: Entry, n: usize, entries: &mut [u32])
 // The tokens of a script that was let in, turn by turn.
 fn tokens(book: &[u8], script: &[u8], limit: usize, literals: &mut [u8], entries: &mut [u32]) -> Ran
     requires { ⌜ (good (now book) ≡ true) × (length (now script) ≤ 16777216) ⌝ }
-    ensures { λ r. ⌜ r ≡ ranOf (cutRun (boundsOf 5 limit (length (now (literals .entry))) (length (now (entries .entry)))) 0 0 (scriptOf (now (script .entry)) (now (book .entry)))) ⌝ }
-    ensures { λ r. ⌜ now (literals .exit) ≡ literalsOf (cutRun (boundsOf 5 limit (length (now (literals .entry))) (length (now (entries .entry)))) 0 0 (scriptOf (now (script .entry)) (now (book .entry)))) (now (literals .entry)) ⌝ }
-    ensures { λ r. ⌜ now (entries .exit) ≡ entriesOf numbersOf (cutRun (boundsOf 5 limit (length (now (literals .entry))) (length (now (entries .entry)))) 0 0 (scriptOf (now (script .entry)) (now (book .entry)))) (now (entries .entry)) ⌝ }
+    ensures { λ r. ⌜ called r (now (literals .exit)) (now (entries .exit)) ≡ readCall 5 numbersOf (now (script .entry)) (now (book .entry)) limit (now (literals .entry)) (now (entries .entry)) ⌝ }
 {
-    let room = entries.len() / 5;
-    let mut s = State::begun();
+    let bounds = Bounds {
+        limit,
+        literals: literals.len(),
+        entries: entries.len() / Entry::NUMBERS,
+    };
+    let mut s = State::begun(Cursor {
+        at: 0,
+        place: Position::START,
+    });
     let mut listed = 0;
     let mut used = 0;
     loop {
         let cursor = s.cursor;
-        let turned = turn::turn(
-            book,
-            script,
-            cursor,
-            s.level,
-            s.due,
-            limit,
-            listed < room,
+        let room = Room {
+            bounds,
+            listed,
             used,
-            &mut *literals,
-        );
+        };
+        let turned = turn::turn(book, script, cursor, s.level, s.due, room, &mut *literals);
         let to = turned.to;
         let next = turned.next;
         match next {
@@ -77,7 +91,7 @@ fn tokens(book: &[u8], script: &[u8], limit: usize, literals: &mut [u8], entries
                 store(entry, listed, &mut *entries);
                 listed += 1;
                 used = turned.used;
-                let passed = Passed::given(turned.piece, turned.token);
+                let passed = Crossed::given(turned.piece, turned.token);
                 if passed.counts(s.level) {
                     s = s.behind(passed, to);
                 } else {
@@ -105,21 +119,11 @@ pub fn run(
     literals: &mut [u8],
     entries: &mut [u32],
 ) -> Ran
-    ensures { λ r. ⌜ r ≡ ranOf (runOf (boundsOf 5 limit (length (now (literals .entry))) (length (now (entries .entry)))) (now (script .entry)) (now (book .entry))) ⌝ }
-    ensures { λ r. ⌜ now (literals .exit) ≡ literalsOf (runOf (boundsOf 5 limit (length (now (literals .entry))) (length (now (entries .entry)))) (now (script .entry)) (now (book .entry))) (now (literals .entry)) ⌝ }
-    ensures { λ r. ⌜ now (entries .exit) ≡ entriesOf numbersOf (runOf (boundsOf 5 limit (length (now (literals .entry))) (length (now (entries .entry)))) (now (script .entry)) (now (book .entry))) (now (entries .entry)) ⌝ }
+    ensures { λ r. ⌜ called r (now (literals .exit)) (now (entries .exit)) ≡ runCall 5 numbersOf (now (script .entry)) (now (book .entry)) limit (now (literals .entry)) (now (entries .entry)) ⌝ }
 {
     let number = door::run::refuses(script, book);
     if number == 0 {
         return tokens(book, script, limit, literals, entries);
     }
-    Ran {
-        ending: Ending::Stop(Fault {
-            number,
-            place: Position::START,
-            part: Part::NONE,
-        }),
-        listed: 0,
-        used: 0,
-    }
+    refused(number)
 }

@@ -1,4 +1,4 @@
--- A literal of a kind, for each way out of the functions. Assumes nothing.
+-- A literal, by what opens it, for each way out of the functions. Assumes nothing.
 use Prim.Native.Nat.{ℕ, _+_, _-_, _≤_, _<_}
 use native.Mathlib.Omega.{arith}
 use native.Mathlib.Nat.{sub-zero}
@@ -12,95 +12,89 @@ use borrow.Author.Tests.{eq-eqb, ne-eqb, le-leb, lt-leb}
 use borrow.Rule.Slice.PartMut.{putMid}
 use Rattle.basis.specs.Store.{stored, over}
 use Rattle.basis.proofs.Stores.{part-sets, sets-front, stored-whole}
-use Rattle.utf8.specs.Table.{chars, lookAt}
+use Rattle.utf8.specs.Table.{chars, well, lookAt}
 use Rattle.white.specs.White.{isWhite}
+use Rattle.classes.specs.Marks.{hash, apostrophe}
+use Rattle.fault.specs.Faults.{stillOpen, notOneCharacter, tooDeep}
 use Rattle.chars.specs.declared.cursor.Cursor.{Cursor}
-use Rattle.literal.specs.Trace.{bytes}
+use Rattle.literal.specs.Trace.{Trace, bytes}
+use Rattle.literal.specs.Answers.{full}
 use Rattle.literal.specs.Cut.{cut}
 use Rattle.literal.specs.declared.End.{End}
-use Rattle.raw.specs.Raw.{readOf, asSource}
-use Rattle.string_turn.specs.Kinds.{apostrophe}
-use Rattle.string.specs.Ends.{fullAt}
-use Rattle.string.specs.Reading.{readingOf}
+use Rattle.raw.specs.Raw.{readOf}
+use Rattle.string.specs.Reading.{stringReading}
 use Rattle.string.proofs.Bodies.{body-well}
-use Rattle.find.specs.Find as Find
-use Rattle.reading.specs.CutRun.{full}
-use Rattle.script.specs.Steps.{terminatorOf, traceOf, wrongOf}
+use Rattle.find.specs.declared.Opener.{Opener}
+use Rattle.reading.specs.CutRun.{scanned}
+use Rattle.reading.specs.declared.Bounds.{Bounds}
+use Rattle.script.specs.Rules.{Rules, document01}
+use Rattle.script.specs.Steps.{literalTrace, verdictOf}
+use Rattle.script.specs.declared.Verdict.the-variants as verdict
 use Rattle.turn.proofs.OneCharacter.{alone, alone-is, too-many}
 
--- ---- the terminator
-module _ (k : ℕ) where
-  pub of-string : k ≡ Find.string → terminatorOf k ≡ 0x22
-  unfolding terminatorOf
-  of-string q = rw (eq-eqb k Find.string q)
-
-  module _ (n : k ≡ Find.string → ⊥) where
-    pub of-char : k ≡ Find.char → terminatorOf k ≡ 0x27
-    unfolding terminatorOf
-    of-char q = rw (ne-eqb k Find.string n, eq-eqb k Find.char q)
-
-    pub of-text : (k ≡ Find.char → ⊥) → terminatorOf k ≡ 0x60
-    unfolding terminatorOf
-    of-text m = rw (ne-eqb k Find.string n, ne-eqb k Find.char m)
-
 -- ---- the reading
-module _ (t : List ℕ) (k : ℕ) (from : Cursor) where
-  pub raw-trace : k ≡ Find.raw → traceOf t k from ≡ readOf asSource t from 0
-  unfolding traceOf
-  raw-trace q = rw (eq-eqb k Find.raw q)
+module _ (rules : Rules) (t : List ℕ) (o : Opener) (from : Cursor) where
+  pub raw-trace : o .terminator ≡ hash → literalTrace rules t o from ≡ readOf (rules .newlines) t from 0
+  unfolding literalTrace
+  raw-trace q = rw (eq-eqb (o .terminator) hash q)
 
-  pub string-trace : (k ≡ Find.raw → ⊥) → traceOf t k from ≡ readingOf isWhite t (terminatorOf k) from
-  unfolding traceOf
-  string-trace n = rw (ne-eqb k Find.raw n)
+  module _ (n : o .terminator ≡ hash → ⊥) where
+    pub string-trace : literalTrace rules t o from ≡ stringReading (rules .white) t (o .terminator) from
+    unfolding literalTrace
+    string-trace = rw (ne-eqb (o .terminator) hash n)
 
-  pub string-cut : (limit room : ℕ) → (k ≡ Find.raw → ⊥) → cut (fullAt from) limit room 0 (readingOf isWhite t (terminatorOf k) from) ≡ cut (full from) limit room 0 (traceOf t k from)
-  unfolding fullAt
-  string-cut limit room n = rw (string-trace n)
+    pub string-cut : (limit room : ℕ) → cut (full from) limit room 0 (stringReading (rules .white) t (o .terminator) from) ≡ cut (full from) limit room 0 (literalTrace rules t o from)
+    string-cut limit room = rw string-trace
+
+-- the literal bytes lent are the bounds' literal room
+pub in-room : (b : Bounds) (used m : ℕ) (from : Cursor) (t : Trace) → b .literals ≡ m → cut (full from) (b .limit) (m - used) 0 t ≡ scanned b used from t
+in-room b used m from t q = ap (λ (k : ℕ). cut (full from) (b .limit) (k - used) 0 t) (sym q)
 
 -- ---- one character
-module _ (t : List ℕ) (from : Cursor) where
+module _ (t : List ℕ) (o : Opener) (from : Cursor) (q : o .terminator ≡ apostrophe) where
   abbrev pub body : List ℕ
-  body = bytes (readingOf isWhite t apostrophe from)
+  body = bytes (literalTrace document01 t o from)
+
+  no-hash : o .terminator ≡ hash → ⊥
+  no-hash z = omega (arith, z, q)
+
+  formed : well body ≡ true
+  formed = rw (string-trace document01 t o from no-hash) (body-well isWhite t (o .terminator) (from .place) from refl)
 
   pub body-long : 4 < length body → false ≡ eqb (length (chars body)) 1
-  body-long h = too-many body (body-well isWhite t apostrophe (from .place) from refl) h
+  body-long h = too-many body formed h
 
   pub body-alone : (old : List ℕ) → alone (lookAt (over body old) 0) (length body) ≡ eqb (length (chars body)) 1
   unfolding lookAt
-  body-alone old = alone-is body (body-well isWhite t apostrophe (from .place) from refl) (drop (length body) old)
+  body-alone old = alone-is body formed (drop (length body) old)
 
--- ---- what is wrong with it
-module _ (k level : ℕ) (e : End) (bs : List ℕ) where
-  pub wrong-open : (e .on_record .times ≡ 0 → ⊥) → wrongOf k level e bs ≡ 11
-  unfolding wrongOf
-  wrong-open n = rw (ne-eqb (e .on_record .times) 0 n)
+-- ---- what is to be said of it
+module _ (o : Opener) (level : ℕ) (from : Cursor) (e : End) (bs : List ℕ) where
+  pub still-open : (e .on_record .times ≡ 0 → ⊥) → verdictOf o level from e bs ≡ verdict.Wrong (stillOpen (e .cursor .place))
+  unfolding verdictOf
+  still-open n = rw (ne-eqb (e .on_record .times) 0 n)
 
   module _ (z : e .on_record .times ≡ 0) where
-    pub wrong-deep : e .interpolated ≡ true → 16 ≤ level → wrongOf k level e bs ≡ 13
-    unfolding wrongOf
-    wrong-deep i h = rw (eq-eqb (e .on_record .times) 0 z, i, le-leb 16 level h)
+    pub too-deep : e .interpolated ≡ true → 16 ≤ level → verdictOf o level from e bs ≡ verdict.Wrong (tooDeep (from .place))
+    unfolding verdictOf
+    too-deep i h = rw (eq-eqb (e .on_record .times) 0 z, i, le-leb 16 level h)
 
-    pub fits-piece : e .interpolated ≡ true → level < 16 → wrongOf k level e bs ≡ 0
-    unfolding wrongOf
-    fits-piece i h = rw (eq-eqb (e .on_record .times) 0 z, i, lt-leb 16 level h)
+    pub fine-piece : e .interpolated ≡ true → level < 16 → verdictOf o level from e bs ≡ verdict.Fine
+    unfolding verdictOf
+    fine-piece i h = rw (eq-eqb (e .on_record .times) 0 z, i, lt-leb 16 level h)
 
     module _ (i : e .interpolated ≡ false) where
-      pub fits-char : k ≡ Find.char → eqb (length (chars bs)) 1 ≡ true → wrongOf k level e bs ≡ 0
-      unfolding wrongOf
-      fits-char q y = rw (eq-eqb (e .on_record .times) 0 z, i, eq-eqb k Find.char q, y)
+      pub fine-char : o .terminator ≡ apostrophe → eqb (length (chars bs)) 1 ≡ true → verdictOf o level from e bs ≡ verdict.Fine
+      unfolding verdictOf
+      fine-char q y = rw (eq-eqb (e .on_record .times) 0 z, i, eq-eqb (o .terminator) apostrophe q, y)
 
-      pub wrong-char : k ≡ Find.char → eqb (length (chars bs)) 1 ≡ false → wrongOf k level e bs ≡ 12
-      unfolding wrongOf
-      wrong-char q y = rw (eq-eqb (e .on_record .times) 0 z, i, eq-eqb k Find.char q, y)
+      pub no-char : o .terminator ≡ apostrophe → eqb (length (chars bs)) 1 ≡ false → verdictOf o level from e bs ≡ verdict.Wrong (notOneCharacter (from .place))
+      unfolding verdictOf
+      no-char q y = rw (eq-eqb (e .on_record .times) 0 z, i, eq-eqb (o .terminator) apostrophe q, y)
 
-      pub fits-other : (k ≡ Find.char → ⊥) → wrongOf k level e bs ≡ 0
-      unfolding wrongOf
-      fits-other n = rw (eq-eqb (e .on_record .times) 0 z, i, ne-eqb k Find.char n)
-
--- the reading of a `'` literal
-pub char-trace : (t : List ℕ) (k : ℕ) (from : Cursor) → k ≡ Find.char → traceOf t k from ≡ readingOf isWhite t apostrophe from
-unfolding traceOf terminatorOf
-char-trace t k from q = rw q
+      pub fine-other : (o .terminator ≡ apostrophe → ⊥) → verdictOf o level from e bs ≡ verdict.Fine
+      unfolding verdictOf
+      fine-other n = rw (eq-eqb (e .on_record .times) 0 z, i, ne-eqb (o .terminator) apostrophe n)
 
 -- ---- the memory that is not used
 module _ (l : List ℕ) (used : ℕ) (bs : List ℕ) (h : used + length bs ≤ length l) where

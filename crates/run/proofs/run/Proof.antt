@@ -1,12 +1,12 @@
 -- Who is let in is read; else nothing is listed.
 use mathlib.Core.Path.{sym, ap, _∙_}
 use borrow.Author.Needs.{needs}
-use Rattle.position.specs.Place as Place
+use Rattle.entry.specs.Entries.{numbersOf}
 use Rattle.reading.specs.Reading.{Left}
-use Rattle.reading.specs.Entries.{numbersOf}
 use Rattle.door.proofs.run.Doors.{admitted}
-use Rattle.run.specs.Run.{ranOf, literalsOf, entriesOf}
-use Rattle.run.proofs.Runs.{run-read, refused-answer, refused-literals, refused-entries}
+use Rattle.script.specs.Rules.{document01}
+use Rattle.run.specs.Run.{holds}
+use Rattle.run.proofs.Runs.{run-read, refused-call}
 use Rattle.run.proofs.run.Statement.{statement}
 use Rattle.run.proofs.run.Tie as tie
 
@@ -16,29 +16,19 @@ tokens-requires c κs =
     let who = admitted _ _ (sym (test .before .refuses .ensures) ∙ test .if1 .taken) in
     (who .fair, who .short)
 
-returns : tie.Need-returns
-returns c =
+read-returns : tie.Need-returns
+read-returns c =
     let call = c .before .before .before .before in
     let test = call .before .before .before in
     let start = test .before .before .before .before .before .before in
-    let read = run-read _ _ _ (sym (test .before .refuses .ensures) ∙ test .if1 .taken) in (
-      call .tokens .ensures .0 ∙ ap ranOf (sym read),
-      (
-        call .tokens .ensures .1 .0 ∙ ap (λ (l : Left). literalsOf l (start .args .literals .now)) (sym read),
-        call .tokens .ensures .1 .1 ∙ ap (λ (l : Left). entriesOf numbersOf l (start .args .entries .now)) (sym read),
-      ),
-    )
+    let read = run-read document01 _ _ _ (sym (test .before .refuses .ensures) ∙ test .if1 .taken) in
+    call .tokens .ensures ∙ ap (λ (l : Left). holds numbersOf l (start .args .literals .now) (start .args .entries .now)) (sym read)
 
-returns-2 : tie.Need-returns-2
-unfolding Place.start
-returns-2 c =
-    let call = c .before in (
-      rw (call .refuses .ensures) (refused-answer _ _ _ (λ z. c .if1 .left (call .refuses .ensures ∙ z))),
-      (
-        refused-literals _ _ _ (λ z. c .if1 .left (call .refuses .ensures ∙ z)) _,
-        refused-entries _ _ _ (λ z. c .if1 .left (call .refuses .ensures ∙ z)) numbersOf _,
-      ),
-    )
+refused-returns : tie.Need-returns-2
+refused-returns c =
+    let test = c .before in
+    let call = test .before in
+    rw (c .refused .ensures, call .refuses .ensures) (refused-call document01 _ _ _ (λ z. test .if1 .left (call .refuses .ensures ∙ z)) numbersOf _ _)
 
 pub run-spec : {M : Type 1} → statement M
 run-spec =
@@ -48,5 +38,6 @@ run-spec =
     tokens-requires
     (λ c. search needs)
     (λ c. search needs)
-    returns
-    returns-2)
+    read-returns
+    (λ c κs. search needs)
+    refused-returns)

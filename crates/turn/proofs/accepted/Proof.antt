@@ -1,131 +1,126 @@
 -- 11, 12 and 13 before 10; else the body is written and the entry made.
-use Prim.Native.Nat.{ℕ, _+_, _-_, _≤_}
+use Prim.Native.Nat.{ℕ, _+_, _≤_}
 use native.Mathlib.Omega.{arith}
 use mathlib.Core.Bool.{Bool, false}
 use mathlib.Core.List.{List}
-use mathlib.Core.Path.{_≡_, refl, sym, ap, _∙_}
+use mathlib.Core.Path.{_≡_, refl, sym, _∙_}
 use lib.ListN.{length}
 use borrow.Author.Needs.{needs}
 use Rattle.chars.specs.declared.cursor.Cursor.{Cursor}
-use Rattle.literal.specs.Trace.{bytes}
-use Rattle.literal.specs.declared.Scanned.the-variants.{Accepted}
-use Rattle.reading.specs.CutRun.{Bounds, scanned}
 use Rattle.fault.specs.declared.Fault.{Fault}
-use Rattle.fault.specs.Faults.{noTokenRoom}
+use Rattle.literal.specs.Trace.{bytes}
+use Rattle.reading.specs.declared.Bounds.{Bounds}
 use Rattle.reading.specs.declared.Ending.the-variants.{Stop}
+use Rattle.script.specs.Rules.{document01}
 use Rattle.script.specs.States.{state, begun}
-use Rattle.script.specs.Steps.{Step, traceOf, wrongOf, faultOf, literalOf}
+use Rattle.script.specs.Steps.{Step, literalTrace, verdictOf, literalStep}
 use Rattle.script.specs.declared.State.{State}
-use Rattle.turn.specs.Turns.{within, nextOf, turnOf, keptOf}
+use Rattle.script.specs.declared.Verdict.{Verdict}
+use Rattle.script.specs.declared.Verdict.the-variants as verdict
+use Rattle.turn.specs.Turns.{stepNext, Turns}
 use Rattle.turn.specs.declared.Next.the-variants.{Over}
-use Rattle.turn.proofs.Reading.{stopped, over-turn, over-kept, whole, wrong-next, full-next, listed-leads, listed-kept, fault-open, fault-other}
+use Rattle.token.specs.Tokens.{EOF}
+use Rattle.turn.proofs.Reading.{over-turn, over-kept, whole, wrong-next, full-next, listed-leads, listed-kept}
 use Rattle.turn.proofs.accepted.Statement.{statement}
 use Rattle.turn.proofs.accepted.Tie as tie
 
 -- the literal that was accepted, in a run with so many interpolations open
 module _ (k : tie.Start) where
   abbrev b : Bounds
-  b = within (k .args .limit) (length (k .args .literals .now))
+  b = k .args .room .bounds
+
+  abbrev n : ℕ
+  n = k .args .room .listed
+
+  abbrev used : ℕ
+  used = k .args .room .used
 
   abbrev text : List ℕ
   text = k .args .text .now
 
-  taken : scanned b (k .args .used) (k .args .from) (traceOf text (k .args .kind) (k .args .from)) ≡ Accepted (k .args .end) (k .args .len)
-  taken = k .pre .2
+  abbrev literals : List ℕ
+  literals = k .args .literals .now
 
-  abbrev wrong : ℕ
-  wrong = wrongOf (k .args .kind) (k .args .level) (k .args .end) (bytes (traceOf text (k .args .kind) (k .args .from)))
+  abbrev said : Verdict
+  said = verdictOf (k .args .read .opener) (k .args .level) (k .args .read .from) (k .args .read .end) (bytes (literalTrace document01 text (k .args .read .opener) (k .args .read .from)))
+
+  sized : (k .args .read .len ≡ length (bytes (literalTrace document01 text (k .args .read .opener) (k .args .read .from)))) × (used + k .args .read .len ≤ length literals)
+  sized =
+      let w = whole b n used document01 text (k .args .read .opener) (k .args .read .from) begun (k .pre .accepted) in
+      (w .0, omega (arith, w .1, k .pre .used, k .pre .lent))
 
   module _ (at : Cursor) (braces : List ℕ) (due : Bool) where
     abbrev s : State
     s = state at (k .args .level) braces due
 
     abbrev step : Step
-    step = literalOf text (k .args .kind) (k .args .from) s
+    step = literalStep document01 text (k .args .read .opener) (k .args .read .from) s
 
-    -- it stops with a fault
-    stops : (f : Fault) → nextOf b (k .args .free) (k .args .used) step ≡ Over (Stop f)
-        → (stopped s (k .args .used) f ≡ turnOf b (k .args .free) (k .args .used) s step) × (k .args .literals .now ≡ keptOf b (k .args .free) (k .args .used) step (k .args .literals .now))
-    stops f h = (sym (over-turn b (k .args .free) (k .args .used) s step h), sym (over-kept b (k .args .free) (k .args .used) s step h (k .args .literals .now)))
-
-    -- of its own, by its number
-    wrongs : (f : Fault) → (wrong ≡ 0 → ⊥) → faultOf wrong (k .args .from) (k .args .end) ≡ f
-        → (stopped s (k .args .used) f ≡ turnOf b (k .args .free) (k .args .used) s step) × (k .args .literals .now ≡ keptOf b (k .args .free) (k .args .used) step (k .args .literals .now))
-    wrongs f z q = stops f (wrong-next b (k .args .free) (k .args .used) text (k .args .kind) (k .args .from) s taken z ∙ ap (λ (g : Fault). Over (Stop g)) q)
-
-    -- no room for an entry more
-    fulls : wrong ≡ 0 → k .args .free ≡ false
-        → (stopped s (k .args .used) (noTokenRoom (k .args .from .place)) ≡ turnOf b (k .args .free) (k .args .used) s step) × (k .args .literals .now ≡ keptOf b (k .args .free) (k .args .used) step (k .args .literals .now))
-    fulls z n = stops _ (full-next b (k .args .free) (k .args .used) text (k .args .kind) (k .args .from) s taken z n)
-
-  sized : (k .args .len ≡ length (bytes (traceOf text (k .args .kind) (k .args .from)))) × (k .args .used + k .args .len ≤ length (k .args .literals .now))
-  sized =
-      let w = whole b (k .args .free) (k .args .used) text (k .args .kind) (k .args .from) begun taken in
-      (w .0, omega (arith, w .1, k .pre .1))
+    -- it stops with a fault, and nothing is written
+    stops : (f : Fault) (to : Cursor) → stepNext b n used step ≡ Over (Stop f) → Turns b n used s step (record { piece = false; token = EOF; to = to; used = used; next = Over (Stop f) }) literals literals
+    stops f to h = record { leads = (sym (over-turn b n used s step h), tt); literals = sym (over-kept b n used s step h literals) }
 
 -- where the literal was entered
-abbrev begin : tie.After-wrong-of → tie.Start
-begin w = w .before .before .before .before .before
+abbrev begin : tie.After-verdict → tie.Start
+begin v = v .before .before .before .before .before .before
 
-open-wrong : (n : ℕ) → n ≡ 11 → n ≡ 0 → ⊥
-open-wrong n y z = omega (arith, y, z)
-
-open-returns : tie.Need-returns
-open-returns c =
-    let k = begin (c .before .before .before) in
-    let n = c .before .before .before .wrong-of .ensures in
-    let y = sym n ∙ c .before .before .if1 .taken in
-    let z = open-wrong (wrong k) y in
-    (λ at braces due. rw (c .stop .ensures, n) (wrongs k at braces due _ z (fault-open _ _ _ y) .0, tt), λ at braces due. wrongs k at braces due _ z (fault-open _ _ _ y) .1)
+verdict-requires : tie.Need-verdict-requires
+verdict-requires c κs = let k = c .before .before .before .before .before in (sized k .0, k .pre .kept)
 
 wrong-returns : tie.Need-returns-2
 wrong-returns c =
-    let k = begin (c .before .before .before) in
-    let n = c .before .before .before .wrong-of .ensures in
-    let other = fault-other (wrong k) (k .args .from) (k .args .end) (λ z. c .before .before .if1 .left (n ∙ z)) in (
-      λ at braces due. rw (c .stop2 .ensures, n) (wrongs k at braces due _ (λ z. c .before .if2 .taken (n ∙ z)) other .0, tt),
-      λ at braces due. wrongs k at braces due _ (λ z. c .before .if2 .taken (n ∙ z)) other .1,
-    )
+    let told = c .before .before in
+    let call = told .before .before in
+    let k = begin call in
+    let wrong = sym (call .verdict .ensures) ∙ told .verdict2 .given .1 in
+    λ at braces due. rw (c .over .ensures) (stops k at braces due _ _ (wrong-next (b k) (n k) (used k) document01 (text k) (k .args .read .opener) (k .args .read .from) (s k at braces due) (k .pre .accepted) wrong))
 
--- nothing is wrong
-none-wrong : (k : tie.Else2) → wrong (begin (k .before .before)) ≡ 0
-none-wrong k = sym (k .before .before .wrong-of .ensures) ∙ k .if2 .left
+-- where nothing is wrong
+module _ (told : tie.After-enum-told) where
+  abbrev call : tie.After-verdict
+  call = told .before .before
 
-full-returns : tie.Need-returns-4
+  fine : said (begin call) ≡ verdict.Fine
+  fine = sym (call .verdict .ensures) ∙ told .enum-told .given .1
+
+full-returns : tie.Need-returns-3
 full-returns c =
-    let k = begin (c .before .before .before .before) in
-    let z = none-wrong (c .before .before) in
-    let n = c .before .if3 .left in
-    (λ at braces due. rw (c .stop3 .ensures) (fulls k at braces due z n .0, tt), λ at braces due. fulls k at braces due z n .1)
+    let test = c .before in
+    let told = test .before .before in
+    let k = begin (call told) in
+    λ at braces due. rw (c .stop .ensures)
+    (stops k at braces due _ _ (full-next (b k) (n k) (used k) document01 (text k) (k .args .read .opener) (k .args .read .from) (s k at braces due) (k .pre .accepted) (fine told) (test .if1 .left)))
 
 write-requires : tie.Need-write-requires
-write-requires c κs =
-    let k = begin (c .before .before .before .before) in
-    (k .pre .0, k .pre .1, k .pre .2, k .pre .3)
+write-requires c κs = let told = c .before .before .before in begin (call told) .pre
 
-listed-returns : tie.Need-returns-3
+listed-returns : tie.Need-returns
 listed-returns c =
-    let e = c .before .before .before .before .before .before in
-    let k = begin (e .before .before) in
-    let z = none-wrong e in
-    let y = c .before .before .before .before .before .if3 .taken in (
-      λ at braces due. rw (c .list .ensures) (listed-leads (b k) (k .args .free) (k .args .used) (text k) (k .args .kind) (k .args .from) (s k at braces due) (taken k) z y),
-      λ at braces due. c .before .before .before .write .ensures ∙ sym (listed-kept (b k) (k .args .free) (k .args .used) (text k) (k .args .kind) (k .args .from) (s k at braces due) (taken k) z y (k .args .literals .now)),
-    )
+    let write = c .before .before .before in
+    let test = write .before .before in
+    let told = test .before .before in
+    let k = begin (call told) in
+    λ at braces due. rw (c .list .ensures) (record {
+      leads = listed-leads (b k) (n k) (used k) document01 (text k) (k .args .read .opener) (k .args .read .from) (s k at braces due) (k .pre .accepted) (fine told) (test .if1 .taken);
+      literals = write .write .ensures ∙ sym (listed-kept (b k) (n k) (used k) document01 (text k) (k .args .read .opener) (k .args .read .from) (s k at braces due) (k .pre .accepted) (fine told) (test .if1 .taken) (literals k));
+    })
+
+add-after : tie.Need-add-after
+add-after c = omega (arith, sized (c .before .before .before .before .before) .1)
 
 pub accepted-spec : {M : Type 1} → statement M
 accepted-spec =
     tie.close
     (tie.spec
-    (λ c. omega (arith, sized (c .before .before .before) .1))
-    (λ c κs. let k = c .before .before .before .before in (sized k .0, k .pre .3))
+    add-after
+    verdict-requires
+    (λ c. search needs)
     (λ c κs. search needs)
-    open-returns
-    (λ c κs. search needs)
-    wrong-returns
+    (λ c. search needs)
     write-requires
     (λ c κs. refl)
     (λ c. search needs)
     listed-returns
     (λ c κs. search needs)
+    wrong-returns
     full-returns)

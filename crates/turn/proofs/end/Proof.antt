@@ -11,10 +11,4 @@ still-open : tie.Need-returns-2
 still-open c = λ braces. rw (c .stop .ensures) (end-open _ _ _ _ (c .before .if1 .left), tt)
 
 pub end-spec : {M : Type 1} → statement M
-end-spec =
-    tie.close
-    (tie.spec
-    (λ c κs. search needs)
-    here
-    (λ c κs. search needs)
-    still-open)
+end-spec = tie.close (tie.spec (λ c κs. search needs) here (λ c κs. search needs) still-open)

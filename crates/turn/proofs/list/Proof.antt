@@ -5,11 +5,11 @@ use Rattle.turn.proofs.list.Tie as tie
 
 piece : tie.Need-returns
 unfolding listedAs
-piece c = rw (c .if1 .taken, c .before .before .pre)
+piece c = rw (c .if1 .taken, c .before .before .before .pre)
 
 plain : tie.Need-returns-2
 unfolding listedAs
-plain c = rw (c .if1 .left, c .before .before .pre)
+plain c = rw (c .if1 .left, c .before .before .before .pre)
 
 pub list-spec : {M : Type 1} → statement M
 list-spec = tie.close (tie.spec piece plain)

@@ -6,15 +6,19 @@ use mathlib.Core.List.{List, []}
 use mathlib.Core.Path.{_≡_, refl, sym, ap, _∙_}
 use borrow.Author.Needs.{needs}
 use Rattle.chars.specs.declared.cursor.Cursor.{Cursor}
+use Rattle.white.specs.White.{isWhite}
 use Rattle.find.specs.Find.{findOf}
 use Rattle.find.specs.declared.Found.{Found}
 use Rattle.find.proofs.Ahead as Finds
+use Rattle.reading.specs.declared.Bounds.{Bounds}
+use Rattle.script.specs.Rules.{document01}
 use Rattle.script.specs.States.{state}
 use Rattle.script.specs.Steps.{onFound, stepOf}
 use Rattle.script.specs.Skips.{skipped}
 use Rattle.script.specs.declared.State.{State}
 use Rattle.script.proofs.Skips.{skipped-due, skipped-on}
-use Rattle.turn.proofs.Stepping.{part-any, part-kept, white-turn, white-kept, wrong-turn, wrong-kept, end-any, end-kept, step-due, step-found, found-further}
+use Rattle.turn.specs.Turns.{Turns}
+use Rattle.turn.proofs.Stepping.{part-kept, white-turn, white-kept, wrong-turn, wrong-kept, end-kept, step-due, step-found, found-further}
 use Rattle.turn.proofs.turn.Statement.{statement}
 use Rattle.turn.proofs.turn.Tie as tie
 
@@ -27,93 +31,109 @@ module _ (k : tie.After-find) where
   abbrev begin : tie.Start
   begin = k .before .before .before .before .before .before
 
+  abbrev b : Bounds
+  b = begin .args .room .bounds
+
+  abbrev n : ℕ
+  n = begin .args .room .listed
+
+  abbrev used : ℕ
+  used = begin .args .room .used
+
   abbrev text : List ℕ
   text = begin .args .text .now
 
   abbrev book : List ℕ
   book = begin .args .book .now
 
+  abbrev literals : List ℕ
+  literals = begin .args .literals .now
+
   abbrev here : Cursor
   here = k .before .skip .result
 
-  is-found : findOf text book here ≡ k .find .result
+  is-found : findOf isWhite text book here ≡ k .find .result
   is-found = sym (k .find .ensures)
 
   further : {x : Found} → k .find .result ≡ x → Finds.Ahead text (here .at) x
-  further q = found-further text book (state here 0 ([]) false) (is-found ∙ q)
+  further q = found-further document01 text book (state here 0 ([]) false) (is-found ∙ q)
 
   module _ (braces : List ℕ) where
     -- the run behind the white space
     abbrev s : State
     s = state here (begin .args .level) braces false
 
-    is-skipped : skipped text (started begin braces) ≡ s
-    is-skipped = skipped-on text _ (k .before .before .if1 .left) ∙ ap (λ (c : Cursor). state c (begin .args .level) braces false) (sym (k .before .skip .ensures))
+    is-skipped : skipped document01 text (started begin braces) ≡ s
+    is-skipped = skipped-on document01 text _ (k .before .before .if1 .left) ∙ ap (λ (c : Cursor). state c (begin .args .level) braces false) (sym (k .before .skip .ensures))
 
     -- the step, by what was found
-    stepped : {x : Found} → k .find .result ≡ x → stepOf text book s ≡ onFound text s x
-    stepped q = step-found text book s refl (is-found ∙ q)
+    stepped : {x : Found} → k .find .result ≡ x → stepOf document01 text book s ≡ onFound document01 text s x
+    stepped q = step-found document01 text book s refl (is-found ∙ q)
 
 due-requires : tie.Need-literal-requires
-due-requires c κs = let k = c .before .before .before .before .before in (k .pre .1, k .pre .2)
+due-requires c κs =
+    let due = c .before in
+    let k = due .before .before .before .before in
+    (k .pre .1, k .pre .2, k .pre .3)
 
 due-returns : tie.Need-returns
 due-returns c =
-    let k = c .before .before .before .before .before .before .before .before in
-    let y = c .before .before .before .before .if1 .taken in
-    let told = c .before .before .literal .ensures in (
-      λ braces. rw (skipped-due _ (started k braces) y, step-due _ (k .args .book .now) (started k braces) y) (told .0 (k .args .cursor) braces (k .args .due)),
-      λ braces. rw (skipped-due _ (started k braces) y, step-due _ (k .args .book .now) (started k braces) y) (told .1 (k .args .cursor) braces (k .args .due)),
-    )
+    let call = c .before .before in
+    let due = call .before .before in
+    let k = due .before .before .before .before in
+    let y = due .if1 .taken in
+    λ braces.
+    rw (skipped-due document01 _ (started k braces) y, step-due document01 _ (k .args .book .now) (started k braces) y) (call .literal .ensures (k .args .cursor) braces (k .args .due))
 
 part-requires : tie.Need-part-requires
-part-requires c κs = let f = further (c .before .before .before) (c .before .found2 .given .1) in omega (arith, f .0)
+part-requires c κs =
+    let told = c .before in
+    let f = further (told .before .before) (told .found2 .given .1) in omega (arith, f .0)
 
 literal-requires : tie.Need-literal-requires-2
 literal-requires c κs =
-    let k = c .before .before .before .before in
-    (further k (c .before .before .found3 .given .1) .1, begin k .pre .2)
+    let told = c .before .before in
+    let k = told .before .before in
+    (further k (told .found3 .given .1) .1, begin k .pre .2, begin k .pre .3)
 
 white-returns : tie.Need-returns-2
 white-returns c =
-    let k = c .before .before .before in
-    let q = c .before .found .given .1 in
-    (λ braces. rw (is-skipped k braces, stepped k braces q) (white-turn _ _ _ _ _, tt), λ braces. rw (is-skipped k braces, stepped k braces q) (white-kept _ _ _ _ _ _))
+    let told = c .before in
+    let k = told .before .before in
+    λ braces.
+    rw (is-skipped k braces, stepped k braces (told .found .given .1))
+    (record { leads = (white-turn (b k) (n k) (used k) (s k braces) _, tt); literals = white-kept (b k) (n k) (used k) (s k braces) _ (literals k) })
 
 part-returns : tie.Need-returns-3
 part-returns c =
-    let k = c .before .before .before .before in
-    let q = c .before .before .found2 .given .1 in
-    let told = c .part .ensures (begin k .args .level) in (
-      λ braces. rw (is-skipped k braces, stepped k braces q) (told braces false .0 ∙ part-any _ _ _ _ _ _ _, told braces false .1),
-      λ braces. rw (is-skipped k braces, stepped k braces q) (part-kept _ _ _ _ _ _ _ _),
-    )
+    let told = c .before .before in
+    let k = told .before .before in
+    λ braces.
+    rw (is-skipped k braces, stepped k braces (told .found2 .given .1))
+    (record { leads = c .part .ensures (begin k .args .level) braces false; literals = part-kept (b k) (n k) (used k) (s k braces) _ _ _ (literals k) })
 
 literal-returns : tie.Need-returns-4
 literal-returns c =
-    let k = c .before .before .before .before .before .before .before in
-    let q = c .before .before .before .before .before .found3 .given .1 in
-    let told = c .before .before .literal2 .ensures in (
-      λ braces. rw (is-skipped k braces, stepped k braces q) (told .0 (here k) braces false),
-      λ braces. rw (is-skipped k braces, stepped k braces q) (told .1 (here k) braces false),
-    )
+    let call = c .before .before in
+    let told = call .before .before .before in
+    let k = told .before .before in
+    λ braces.
+    rw (is-skipped k braces, stepped k braces (told .found3 .given .1)) (call .literal2 .ensures (here k) braces false)
 
 wrong-returns : tie.Need-returns-5
 wrong-returns c =
-    let k = c .before .before .before .before in
-    let q = c .before .before .found4 .given .1 in (
-      λ braces. rw (is-skipped k braces, stepped k braces q, c .over .ensures) (wrong-turn _ _ _ _ _, tt),
-      λ braces. rw (is-skipped k braces, stepped k braces q) (wrong-kept _ _ _ (s k braces) _ _),
-    )
+    let told = c .before .before in
+    let k = told .before .before in
+    λ braces.
+    rw (is-skipped k braces, stepped k braces (told .found4 .given .1), c .over .ensures)
+    (record { leads = (wrong-turn (b k) (n k) (used k) (s k braces) _, tt); literals = wrong-kept (b k) (n k) (used k) (s k braces) _ (literals k) })
 
 end-returns : tie.Need-returns-6
 end-returns c =
-    let k = c .before .before .before in
-    let q = c .before .enum-told .given .1 in
-    let told = c .end .ensures in (
-      λ braces. rw (is-skipped k braces, stepped k braces q) (told braces .0 ∙ end-any _ _ _ _, told braces .1),
-      λ braces. rw (is-skipped k braces, stepped k braces q) (end-kept _ _ _ _ _),
-    )
+    let told = c .before in
+    let k = told .before .before in
+    λ braces.
+    rw (is-skipped k braces, stepped k braces (told .enum-told .given .1)) (record { leads = c .end .ensures braces; literals = end-kept (b k) (n k) (used k) (s k braces) (literals k) })
 
 pub turn-spec : {M : Type 1} → statement M
 turn-spec =
