@@ -3,7 +3,7 @@ use Prim.Native.Nat.{ℕ}
 use mathlib.Core.List.{List, [], _∷_}
 use mathlib.Core.Path.{_≡_}
 use Rattle.literal.specs.Cut.{wrote}
-use Rattle.literal.specs.Told.{Told, told, number}
+use Rattle.literal.specs.Told.{Told, told, refusalNumber}
 use Rattle.literal.specs.Trace.{Trace}
 use Rattle.literal.specs.declared.Scanned.{Scanned}
 use Rattle.numbers.specs.Answer.{flag, answered, beside}
@@ -11,8 +11,8 @@ use Rattle.c_names.specs.Packed.{packed}
 use Rattle.c_names.specs.Short.{returnedOr}
 
 -- the number; the offset, the position reached, the first place; the record's character and its count; the body's length; whether `${` ended it; the fault's place, and the offset and length of its part
-abbrev pub listed : Told → List ℕ
-listed t =
+abbrev pub literalNumbers : Told → List ℕ
+literalNumbers t =
     t .number
     ∷ t .cursor .at
     ∷ packed (t .cursor .place)
@@ -27,11 +27,11 @@ listed t =
     ∷ []
 
 -- the row of an answer
-unfoldable pub rowOf : Scanned → List ℕ
-rowOf s = listed (told s)
+unfoldable pub literalRow : Scanned → List ℕ
+literalRow s = literalNumbers (told s)
 
 -- what the C name of a scan leaves, s being the scan's answer, t its reading, and e the answer of the same scan with one byte of room: r is returned, and `out`, lent for the body, and `answer`, lent for the row, then hold out′ and answer′
-pub record Answers (s e : Scanned) (t : Trace) (out answer : List ℕ) (r : ℕ) (out′ answer′ : List ℕ) : Type 0 where
-  pub number : r ≡ returnedOr (number e) (rowOf s) answer
-  pub body : out′ ≡ beside (rowOf s) answer out (wrote s t out)
-  pub row : answer′ ≡ answered (rowOf s) answer
+pub record ScanLeaves (s e : Scanned) (t : Trace) (out answer : List ℕ) (r : ℕ) (out′ answer′ : List ℕ) : Type 0 where
+  pub number : r ≡ returnedOr (refusalNumber e) (literalRow s) answer
+  pub body : out′ ≡ beside (literalRow s) answer out (wrote s t out)
+  pub row : answer′ ≡ answered (literalRow s) answer

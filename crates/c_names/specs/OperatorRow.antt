@@ -8,8 +8,8 @@ use Rattle.c_names.specs.Packed.{lookupAsNumber}
 use Rattle.operators.specs.Precedence.{precedenceOf, isBindRight}
 
 -- the precedence, the operator of an assignment, the assignment of an operator; the six tests
-unfoldable pub rowOf : ℕ → List ℕ
-rowOf t =
+unfoldable pub operatorRow : ℕ → List ℕ
+operatorRow t =
     precedenceOf t
     ∷ lookupAsNumber (baseOpOf t)
     ∷ lookupAsNumber (opAssignmentOf t)

@@ -12,8 +12,8 @@ unfoldable pub packed : Position → ℕ
 packed p = lineNumber p * 65536 + columnNumber p
 
 -- a refusal, by its number
-unfoldable pub refusal : ℕ → ℕ
-refusal n = n * 4294967296
+unfoldable pub refusalAsNumber : ℕ → ℕ
+refusalAsNumber n = n * 4294967296
 
 -- a token; 256 for none
 unfoldable pub lookupAsNumber : Lookup → ℕ
@@ -23,4 +23,4 @@ lookupAsNumber lookup.None = 256
 -- the length written, or the refusal
 unfoldable pub writtenAsNumber : Written → ℕ
 writtenAsNumber (written.Done n) = n
-writtenAsNumber (written.Refused n) = refusal n
+writtenAsNumber (written.Refused n) = refusalAsNumber n

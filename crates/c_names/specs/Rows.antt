@@ -4,10 +4,10 @@ use mathlib.Core.List.{List, [], _∷_}
 use Rattle.numbers.specs.Answer.{flag}
 use Rattle.c_names.specs.Packed.{packed}
 use Rattle.position.specs.Place.{given, beginsLine, isNone, orElse}
-use Rattle.places.specs.Coordinates.{newOf, lineOf, positionOf}
+use Rattle.places.specs.Coordinates.{newOf, lineOption, positionOption}
 use Rattle.places.specs.Moves.{advanceOf, rewindOf, newLineOf}
 use Rattle.places.specs.Sum.{sumOf}
-use Rattle.span.specs.Spans.{newSpan, startOf, endOf, isNoSpan}
+use Rattle.span.specs.Spans.{newSpan, spanStart, spanEnd, isNoSpan}
 use Rattle.position.specs.declared.Position.{Position}
 use Rattle.token_ends.specs.Ends.{recordTokenOf}
 use Rattle.token_ends.specs.Told.{Told, told}
@@ -18,8 +18,8 @@ use Rattle.c_names.specs.PlaceNumbers.{placedAsNumber, coordinateAsNumbe
 unfoldable pub placeRow : ℕ → ℕ → List ℕ
 placeRow l c =
     placedAsNumber (newOf l c)
-    ∷ coordinateAsNumber (lineOf (given l c))
-    ∷ coordinateAsNumber (positionOf (given l c))
+    ∷ coordinateAsNumber (lineOption (given l c))
+    ∷ coordinateAsNumber (positionOption (given l c))
     ∷ flag (beginsLine (given l c))
     ∷ flag (isNone (given l c))
     ∷ placedAsNumber (advanceOf (given l c))
@@ -32,8 +32,8 @@ unfoldable pub pairRow : Position → Position → List ℕ
 pairRow p q =
     packed (orElse p q)
     ∷ placedAsNumber (sumOf p q)
-    ∷ packed (startOf (newSpan p q))
-    ∷ packed (endOf (newSpan p q))
+    ∷ packed (spanStart (newSpan p q))
+    ∷ packed (spanEnd (newSpan p q))
     ∷ flag (isNoSpan (newSpan p q))
     ∷ []
 
@@ -42,13 +42,13 @@ unfoldable pub placesRow : ℕ → ℕ → ℕ → ℕ → List ℕ
 placesRow l c m d = pairRow (given l c) (given m d)
 
 -- of what is recorded: the number; the last end, and the one before it
-abbrev pub listed : Told → List ℕ
-listed t = t .number ∷ packed (t .last) ∷ packed (t .previous) ∷ []
+abbrev pub endNumbers : Told → List ℕ
+endNumbers t = t .number ∷ packed (t .last) ∷ packed (t .previous) ∷ []
 
 -- two ends, each by its line and its column: the last one, and the one before it
-abbrev pub ends : ℕ → ℕ → ℕ → ℕ → TokenEnds
-ends l c m d = record { last = given l c; previous = given m d }
+abbrev pub endsGiven : ℕ → ℕ → ℕ → ℕ → TokenEnds
+endsGiven l c m d = record { last = given l c; previous = given m d }
 
 -- of a token that ends at a line and a column, and the ends that it finds
 unfoldable pub recordRow : ℕ → ℕ → ℕ → TokenEnds → List ℕ
-recordRow token l c e = listed (told (recordTokenOf e token (given l c)))
+recordRow token l c e = endNumbers (told (recordTokenOf e token (given l c)))

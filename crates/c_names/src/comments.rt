@@ -5,7 +5,7 @@ ghost use lib.ListN.{getD};
 ghost use Rattle.comment.specs.Block.{told};
 ghost use Rattle.numbers.specs.Answer.{answered};
 ghost use Rattle.c_names.specs.Short.{returned};
-ghost use Rattle.c_names.specs.CommentRow.{listed, rowOf};
+ghost use Rattle.c_names.specs.CommentRow.{commentNumbers, commentRow};
 use crate::pack;
 use chars::cursor::Cursor;
 use comment::scan::Commented;
@@ -14,7 +14,7 @@ use position::Position;
 // A refused scan tells the level, the offset and the place that it was given. The number is small, so that a caller can
 // cast it.
 fn row_of(level: usize, start: Cursor, scanned: Commented) -> [u64; 4]
-    ensures { λ r. ⌜ (r ≡ listed (told level start scanned)) × (getD r 0 0 ≤ 255) ⌝ }
+    ensures { λ r. ⌜ (r ≡ commentNumbers (told level start scanned)) × (getD r 0 0 ≤ 255) ⌝ }
 {
     match scanned {
         Commented::Done(comment) => {
@@ -47,8 +47,8 @@ pub extern "C" fn stew_scan_block_comment(
     level: usize,
     answer: &mut [u8],
 ) -> u32
-    ensures { λ r. ⌜ r ≡ returned (rowOf (now (text .entry)) at line column level) (now (answer .entry)) ⌝ }
-    ensures { λ r. ⌜ now (answer .exit) ≡ answered (rowOf (now (text .entry)) at line column level) (now (answer .entry)) ⌝ }
+    ensures { λ r. ⌜ r ≡ returned (commentRow (now (text .entry)) at line column level) (now (answer .entry)) ⌝ }
+    ensures { λ r. ⌜ now (answer .exit) ≡ answered (commentRow (now (text .entry)) at line column level) (now (answer .entry)) ⌝ }
 {
     let place = Position::given(line, column);
     let scanned = comment::scan_block_comment(text, at, place, level);

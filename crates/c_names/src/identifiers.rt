@@ -5,14 +5,14 @@ ghost use lib.ListN.{getD};
 ghost use Rattle.identifier.specs.Told.{told};
 ghost use Rattle.numbers.specs.Answer.{answered};
 ghost use Rattle.c_names.specs.Short.{returned};
-ghost use Rattle.c_names.specs.IdentifierRow.{listed, rowOf};
+ghost use Rattle.c_names.specs.IdentifierRow.{identifierNumbers, identifierRow};
 use crate::pack;
 use identifier::scan::Identified;
 use position::Position;
 
 // The number is small, so that a caller can cast it.
 fn row_of(scanned: Identified) -> [u64; 8]
-    ensures { λ r. ⌜ (r ≡ listed (told scanned)) × (getD r 0 0 ≤ 255) ⌝ }
+    ensures { λ r. ⌜ (r ≡ identifierNumbers (told scanned)) × (getD r 0 0 ≤ 255) ⌝ }
 {
     match scanned {
         Identified::Found(word) => {
@@ -54,8 +54,8 @@ pub extern "C" fn stew_parse_identifier_token(
     book: &[u8],
     answer: &mut [u8],
 ) -> u32
-    ensures { λ r. ⌜ r ≡ returned (rowOf (now (text .entry)) at line column (now (book .entry))) (now (answer .entry)) ⌝ }
-    ensures { λ r. ⌜ now (answer .exit) ≡ answered (rowOf (now (text .entry)) at line column (now (book .entry))) (now (answer .entry)) ⌝ }
+    ensures { λ r. ⌜ r ≡ returned (identifierRow (now (text .entry)) at line column (now (book .entry))) (now (answer .entry)) ⌝ }
+    ensures { λ r. ⌜ now (answer .exit) ≡ answered (identifierRow (now (text .entry)) at line column (now (book .entry))) (now (answer .entry)) ⌝ }
 {
     let place = Position::given(line, column);
     let scanned = identifier::parse_identifier_token(text, at, place, book);

@@ -2,16 +2,16 @@
 ghost use mathlib.Core.Path.{_≡_};
 ghost use Prim.Native.Nat.{_≤_};
 ghost use lib.ListN.{getD};
-ghost use Rattle.literal.specs.Told.{number};
-ghost use Rattle.numbers.specs.Answer.{returned, answered};
-ghost use Rattle.c_names.specs.Short.{shortNumber};
-ghost use Rattle.c_names.specs.LiteralRow.{rowOf};
+ghost use Rattle.literal.specs.Told.{refusalNumber};
+ghost use Rattle.numbers.specs.Answer.{answered};
+ghost use Rattle.c_names.specs.Short.{shortRowNumber};
+ghost use Rattle.c_names.specs.LiteralRow.{literalRow};
 use crate::pack;
 use literal::Scanned;
 
 // The number comes first: it is small, so that a caller can cast it.
 fn row_of(s: Scanned) -> [u64; 11]
-    ensures { λ r. ⌜ (r ≡ rowOf s) × (getD r 0 0 ≤ 255) ⌝ }
+    ensures { λ r. ⌜ (r ≡ literalRow s) × (getD r 0 0 ≤ 255) ⌝ }
 {
     match s {
         Scanned::Accepted(end, len) => {
@@ -52,19 +52,16 @@ fn row_of(s: Scanned) -> [u64; 11]
 
 // The number for an answer that is too short for the row.
 pub(crate) fn short_number(s: Scanned) -> u32
-    ensures { λ r. ⌜ r ≡ shortNumber (number s) ⌝ }
+    ensures { λ r. ⌜ r ≡ shortRowNumber (refusalNumber s) ⌝ }
 {
     pack::short_number(s.fault().number as u64)
 }
 
-// Puts the row into what is lent for it, 8 bytes a number, and answers the first; 9 where it has no room.
+// Puts the row into what is lent for it, 8 bytes a number, and answers the first. Its callers have asked for the room.
 pub(crate) fn answer(s: Scanned, memory: &mut [u8]) -> u32
-    ensures { λ r. ⌜ r ≡ returned (rowOf s) (now (memory .entry)) ⌝ }
-    ensures { λ r. ⌜ now (memory .exit) ≡ answered (rowOf s) (now (memory .entry)) ⌝ }
+    ensures { λ r. ⌜ r ≡ getD (literalRow s) 0 0 ⌝ }
+    ensures { λ r. ⌜ now (memory .exit) ≡ answered (literalRow s) (now (memory .entry)) ⌝ }
 {
-    if memory.len() < 88 {
-        return 9;
-    }
     let row = row_of(s);
     numbers::write_row(&row, 8, &mut *memory);
     row[0] as u32

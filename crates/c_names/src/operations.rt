@@ -1,11 +1,11 @@
 // C name of the questions that the source asks of a token, which goes in as its number.
 ghost use mathlib.Core.Path.{_≡_};
 ghost use Rattle.numbers.specs.Answer.{fitted, answered};
-ghost use Rattle.c_names.specs.OperatorRow.{rowOf};
+ghost use Rattle.c_names.specs.OperatorRow.{operatorRow};
 use crate::pack;
 
 fn row_of(token: u8) -> [u64; 9]
-    ensures { λ r. ⌜ r ≡ rowOf token ⌝ }
+    ensures { λ r. ⌜ r ≡ operatorRow token ⌝ }
 {
     [
         operators::precedence::precedence(token) as u64,
@@ -23,8 +23,8 @@ fn row_of(token: u8) -> [u64; 9]
 // The row: the precedence, or 0; the operator of an assignment and the assignment of an operator, or 256; six tests.
 #[no_mangle]
 pub extern "C" fn stew_operators(token: u8, answer: &mut [u8]) -> u32
-    ensures { λ r. ⌜ r ≡ fitted (rowOf token) (now (answer .entry)) ⌝ }
-    ensures { λ r. ⌜ now (answer .exit) ≡ answered (rowOf token) (now (answer .entry)) ⌝ }
+    ensures { λ r. ⌜ r ≡ fitted (operatorRow token) (now (answer .entry)) ⌝ }
+    ensures { λ r. ⌜ now (answer .exit) ≡ answered (operatorRow token) (now (answer .entry)) ⌝ }
 {
     if answer.len() < 72 {
         return 9;

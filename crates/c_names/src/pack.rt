@@ -1,7 +1,7 @@
 // How an answer crosses a C name: as one number.
 ghost use mathlib.Core.Path.{_≡_};
 ghost use Rattle.c_names.specs.Packed.{packed, lookupAsNumber, writtenAsNumber};
-ghost use Rattle.c_names.specs.Short.{shortNumber};
+ghost use Rattle.c_names.specs.Short.{shortRowNumber};
 use lent::Written;
 use position::Position;
 use token::Lookup;
@@ -37,7 +37,7 @@ pub(crate) fn written_as_number(w: Written) -> u64
 
 // The number for an answer that is too short for its row, from the number that it would have.
 pub(crate) fn short_number(n: u64) -> u32
-    ensures { λ r. ⌜ r ≡ shortNumber n ⌝ }
+    ensures { λ r. ⌜ r ≡ shortRowNumber n ⌝ }
 {
     match n {
         1 => 1,

@@ -7,7 +7,7 @@ ghost use Rattle.token_ends.specs.Told.{told};
 ghost use Rattle.numbers.specs.Answer.{fitted, answered};
 ghost use Rattle.c_names.specs.Short.{returned};
 ghost use Rattle.c_names.specs.PlaceNumbers.{placedAsNumber, coordinateAsNumber};
-ghost use Rattle.c_names.specs.Rows.{placeRow, pairRow, placesRow, listed, ends, recordRow};
+ghost use Rattle.c_names.specs.Rows.{placeRow, pairRow, placesRow, endNumbers, endsGiven, recordRow};
 use crate::pack;
 use places::coordinates::Coordinate;
 use places::coordinates::Placed;
@@ -67,7 +67,7 @@ fn pair_row(p: Position, q: Position) -> [u64; 5]
 
 // The number is small, so that a caller can cast it.
 fn recorded_row(recorded: Recorded) -> [u64; 3]
-    ensures { λ r. ⌜ (r ≡ listed (told recorded)) × (getD r 0 0 ≤ 255) ⌝ }
+    ensures { λ r. ⌜ (r ≡ endNumbers (told recorded)) × (getD r 0 0 ≤ 255) ⌝ }
 {
     match recorded {
         Recorded::Ends(ends) => {
@@ -126,8 +126,8 @@ pub extern "C" fn stew_record_token(
     column3: u16,
     answer: &mut [u8],
 ) -> u32
-    ensures { λ r. ⌜ r ≡ returned (recordRow token line column (ends line2 column2 line3 column3)) (now (answer .entry)) ⌝ }
-    ensures { λ r. ⌜ now (answer .exit) ≡ answered (recordRow token line column (ends line2 column2 line3 column3)) (now (answer .entry)) ⌝ }
+    ensures { λ r. ⌜ r ≡ returned (recordRow token line column (endsGiven line2 column2 line3 column3)) (now (answer .entry)) ⌝ }
+    ensures { λ r. ⌜ now (answer .exit) ≡ answered (recordRow token line column (endsGiven line2 column2 line3 column3)) (now (answer .entry)) ⌝ }
 {
     let place = Position::given(line, column);
     let ends = TokenEnds {

@@ -1,7 +1,7 @@
 // Raw string literals through C: `parse_raw_string_literal`, entered or resumed, on numbers and byte slices.
 ghost use mathlib.Core.List.{[], _∷_};
-ghost use Rattle.c_names.specs.LiteralRow.{Answers};
-ghost use Rattle.c_names.specs.RawScans.{parsing, parsed, resuming, resumed};
+ghost use Rattle.c_names.specs.LiteralRow.{ScanLeaves};
+ghost use Rattle.c_names.specs.RawScans.{rawParsing, rawParsed, rawResuming, rawResumed};
 use crate::literals;
 use position::Position;
 
@@ -17,7 +17,7 @@ pub extern "C" fn stew_parse_raw_string_literal(
     out: &mut [u8],
     answer: &mut [u8],
 ) -> u32
-    ensures { λ r. ⌜ Answers (parsed (now (text .entry)) at line column limit (now (out .entry))) (parsed (now (text .entry)) at line column limit (0 ∷ [])) (parsing (now (text .entry)) at line column) (now (out .entry)) (now (answer .entry)) r (now (out .exit)) (now (answer .exit)) ⌝ }
+    ensures { λ r. ⌜ ScanLeaves (rawParsed (now (text .entry)) at line column limit (now (out .entry))) (rawParsed (now (text .entry)) at line column limit (0 ∷ [])) (rawParsing (now (text .entry)) at line column) (now (out .entry)) (now (answer .entry)) r (now (out .exit)) (now (answer .exit)) ⌝ }
 {
     let place = Position::given(line, column);
     if answer.len() < 88 {
@@ -46,7 +46,7 @@ pub extern "C" fn stew_resume_raw_string_literal(
     out: &mut [u8],
     answer: &mut [u8],
 ) -> u32
-    ensures { λ r. ⌜ Answers (resumed (now (text .entry)) at line column hashes limit (now (out .entry))) (resumed (now (text .entry)) at line column hashes limit (0 ∷ [])) (resuming (now (text .entry)) at line column hashes) (now (out .entry)) (now (answer .entry)) r (now (out .exit)) (now (answer .exit)) ⌝ }
+    ensures { λ r. ⌜ ScanLeaves (rawResumed (now (text .entry)) at line column hashes limit (now (out .entry))) (rawResumed (now (text .entry)) at line column hashes limit (0 ∷ [])) (rawResuming (now (text .entry)) at line column hashes) (now (out .entry)) (now (answer .entry)) r (now (out .exit)) (now (answer .exit)) ⌝ }
 {
     let place = Position::given(line, column);
     if answer.len() < 88 {

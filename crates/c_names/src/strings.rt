@@ -1,7 +1,7 @@
 // String literals through C: `parse_string_literal` on numbers and byte slices.
 ghost use mathlib.Core.List.{[], _∷_};
-ghost use Rattle.c_names.specs.LiteralRow.{Answers};
-ghost use Rattle.c_names.specs.StringScans.{parsing, parsed};
+ghost use Rattle.c_names.specs.LiteralRow.{ScanLeaves};
+ghost use Rattle.c_names.specs.StringScans.{stringParsing, stringParsed};
 use crate::literals;
 use position::Position;
 
@@ -18,7 +18,7 @@ pub extern "C" fn stew_parse_string_literal(
     out: &mut [u8],
     answer: &mut [u8],
 ) -> u32
-    ensures { λ r. ⌜ Answers (parsed (now (text .entry)) at line column terminator limit (now (out .entry))) (parsed (now (text .entry)) at line column terminator limit (0 ∷ [])) (parsing (now (text .entry)) at line column terminator) (now (out .entry)) (now (answer .entry)) r (now (out .exit)) (now (answer .exit)) ⌝ }
+    ensures { λ r. ⌜ ScanLeaves (stringParsed (now (text .entry)) at line column terminator limit (now (out .entry))) (stringParsed (now (text .entry)) at line column terminator limit (0 ∷ [])) (stringParsing (now (text .entry)) at line column terminator) (now (out .entry)) (now (answer .entry)) r (now (out .exit)) (now (answer .exit)) ⌝ }
 {
     let place = Position::given(line, column);
     if answer.len() < 88 {

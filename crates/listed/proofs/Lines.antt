@@ -14,8 +14,8 @@ use Rattle.position.specs.declared.Position.{Position}
 use Rattle.display.specs.Forms.{debugOf}
 use Rattle.display.specs.Decimal.{digit, decimal}
 use Rattle.display.proofs.Decimals.{decimal-one, decimal-more}
-use Rattle.listed.specs.Texts.{Text, put, puts}
-use Rattle.listed.specs.Listing.{hexByte, hexes, hexOf, kinds, kindOf, lineOf, partOf, bytesOf, entryOf, entriesLines}
+use Rattle.listed.specs.Texts.{Writing, put, puts}
+use Rattle.listed.specs.Listing.{hexByte, hexes, hexOf, kinds, kindWord, tokenLine, partAt, tokenBytes, entryLine, entriesLines}
 use Rattle.listed.proofs.Puts.{puts-append}
 
 -- bytes in hex: none, or some
@@ -40,34 +40,34 @@ hexes-past bs i h = rw (past bs i h)
 
 -- a part: it is not there, or it is
 module _ (bs : List ℕ) (at n : ℕ) where
-  pub part-none : length bs < at + n → [] ≡ partOf bs at n
-  unfolding partOf
+  pub part-none : length bs < at + n → [] ≡ partAt bs at n
+  unfolding partAt
   part-none h = rw (lt-leb (at + n) (length bs) h)
 
-  pub part-some : at + n ≤ length bs → take n (drop at bs) ≡ partOf bs at n
-  unfolding partOf
+  pub part-some : at + n ≤ length bs → take n (drop at bs) ≡ partAt bs at n
+  unfolding partAt
   part-some h = rw (le-leb (at + n) (length bs) h)
 
 -- the bytes of a kind below the literals, above them, or among them
 module _ (t ls : List ℕ) (k at n : ℕ) where
-  pub bytes-below : k < 5 → bytesOf t ls k at n ≡ partOf t at n
-  unfolding bytesOf
+  pub bytes-below : k < 5 → tokenBytes t ls k at n ≡ partAt t at n
+  unfolding tokenBytes
   bytes-below h = rw (lt-leb 5 k h)
 
-  pub bytes-above : 5 ≤ k → 9 < k → bytesOf t ls k at n ≡ partOf t at n
-  unfolding bytesOf
+  pub bytes-above : 5 ≤ k → 9 < k → tokenBytes t ls k at n ≡ partAt t at n
+  unfolding tokenBytes
   bytes-above h g = rw (le-leb 5 k h, lt-leb k 9 g)
 
-  pub bytes-packed : 5 ≤ k → k ≤ 9 → bytesOf t ls k at n ≡ partOf ls at n
-  unfolding bytesOf
+  pub bytes-packed : 5 ≤ k → k ≤ 9 → tokenBytes t ls k at n ≡ partAt ls at n
+  unfolding tokenBytes
   bytes-packed h g = rw (le-leb 5 k h, le-leb k 9 g)
 
 -- a number that is none of a kind
 abbrev pub NoKind : ℕ → Type 0
 NoKind k = ((((((((((Unit {0} × (k ≡ 1 → ⊥)) × (k ≡ 2 → ⊥)) × (k ≡ 3 → ⊥)) × (k ≡ 4 → ⊥)) × (k ≡ 5 → ⊥)) × (k ≡ 6 → ⊥)) × (k ≡ 7 → ⊥)) × (k ≡ 8 → ⊥)) × (k ≡ 9 → ⊥)) × (k ≡ 10 → ⊥)) × (k ≡ 11 → ⊥)
 
-pub kind-none : (k : ℕ) → NoKind k → kindOf k ≡ word "-"
-unfolding kinds kindOf
+pub kind-none : (k : ℕ) → NoKind k → kindWord k ≡ word "-"
+unfolding kinds kindWord
 kind-none zero h = refl
 kind-none (suc zero) h = absurd (h .0 .0 .0 .0 .0 .0 .0 .0 .0 .0 .1 refl)
 kind-none (suc (suc zero)) h = absurd (h .0 .0 .0 .0 .0 .0 .0 .0 .0 .1 refl)
@@ -99,25 +99,25 @@ module _ (n : ℕ) where
       rw (decimal-more n (omega arith), decimal-more (n / 10) (omega arith), decimal-one (n / 10 / 10) (omega arith), hundreds)
 
 -- the pieces of a line, one behind the other
-pub line-put : (t : Text) (p : Position) (k : ℕ) (bs : List ℕ) {u : Text}
-    → u ≡ put (puts (put (put (put (put t (debugOf p)) (word " ")) (kindOf k)) (word " ")) (hexOf bs)) (word "\n")
-    → u ≡ puts t (lineOf p k bs)
-unfolding puts lineOf
-line-put t p k bs e = e ∙ sym (puts-append (put (put (put (put t (debugOf p)) (word " ")) (kindOf k)) (word " ")) (hexOf bs) (word "\n" ∷ []))
+pub line-put : (t : Writing) (p : Position) (k : ℕ) (bs : List ℕ) {u : Writing}
+    → u ≡ put (puts (put (put (put (put t (debugOf p)) (word " ")) (kindWord k)) (word " ")) (hexOf bs)) (word "\n")
+    → u ≡ puts t (tokenLine p k bs)
+unfolding puts tokenLine
+line-put t p k bs e = e ∙ sym (puts-append (put (put (put (put t (debugOf p)) (word " ")) (kindWord k)) (word " ")) (hexOf bs) (word "\n" ∷ []))
 
 -- the entry whose numbers begin at an index
-module _ (t ls es : List ℕ) (i : ℕ) (x : Text) {u : Text} {l c : ℕ} {p : Position} {bs : List ℕ} where
+module _ (t ls es : List ℕ) (i : ℕ) (x : Writing) {u : Writing} {l c : ℕ} {p : Position} {bs : List ℕ} where
   pub entry-put : l ≡ min (getD es (i + 1) 0) 65535 → c ≡ min (getD es (i + 2) 0) 65535 → p ≡ given l c
-      → bs ≡ bytesOf t ls (getD es i 0) (getD es (i + 3) 0) (getD es (i + 4) 0)
-      → u ≡ puts x (lineOf p (getD es i 0) bs)
-      → u ≡ puts x (entryOf t ls (drop i es))
-  unfolding entryOf
+      → bs ≡ tokenBytes t ls (getD es i 0) (getD es (i + 3) 0) (getD es (i + 4) 0)
+      → u ≡ puts x (tokenLine p (getD es i 0) bs)
+      → u ≡ puts x (entryLine t ls (drop i es))
+  unfolding entryLine
   entry-put a b q r e =
       rw (getD-drop i es 0 0, getD-drop i es 1 0, getD-drop i es 2 0, getD-drop i es 3 0, getD-drop i es 4 0, add-zero i, ← a, ← b, ← q, ← r) e
 
 -- so many entries less some: the next one and the rest, or none
 module _ (t ls es : List ℕ) (k n : ℕ) where
-  pub lines-here : n < k → entriesLines t ls (k - n) (drop (5 * n) es) ≡ entryOf t ls (drop (5 * n) es) ++ entriesLines t ls (k - (n + 1)) (drop (5 * (n + 1)) es)
+  pub lines-here : n < k → entriesLines t ls (k - n) (drop (5 * n) es) ≡ entryLine t ls (drop (5 * n) es) ++ entriesLines t ls (k - (n + 1)) (drop (5 * (n + 1)) es)
   unfolding entriesLines
   lines-here h =
       let left : k - n ≡ suc (k - (n + 1)) = omega arith in
@@ -128,6 +128,6 @@ module _ (t ls es : List ℕ) (k n : ℕ) where
   unfolding entriesLines
   lines-past h = let none : k - n ≡ 0 = omega arith in rw none
 
-  pub lines-next : (x : Text) {u : Text} → n < k → u ≡ puts x (entryOf t ls (drop (5 * n) es))
+  pub lines-next : (x : Writing) {u : Writing} → n < k → u ≡ puts x (entryLine t ls (drop (5 * n) es))
       → puts x (entriesLines t ls (k - n) (drop (5 * n) es)) ≡ puts u (entriesLines t ls (k - (n + 1)) (drop (5 * (n + 1)) es))
-  lines-next x h e = rw (lines-here h, puts-append x (entryOf t ls (drop (5 * n) es)) (entriesLines t ls (k - (n + 1)) (drop (5 * (n + 1)) es)), ← e)
+  lines-next x h e = rw (lines-here h, puts-append x (entryLine t ls (drop (5 * n) es)) (entriesLines t ls (k - (n + 1)) (drop (5 * (n + 1)) es)), ← e)

@@ -13,7 +13,7 @@ use Rattle.lent.specs.Written.{writtenOf, leftOf}
 use Rattle.lent.specs.declared.Written.{Written}
 use Rattle.lent.specs.declared.Written.the-variants.{Done, Refused}
 use Rattle.lent.proofs.Writes.{refused, untouched, done, written}
-use Rattle.listed.specs.Texts.{Text, text, put, puts}
+use Rattle.listed.specs.Texts.{Writing, text, put, puts}
 
 -- what a copy tells
 module _ (l : List ℕ) (i : ℕ) (xs : List ℕ) {r : ℕ} {l′ : List ℕ} where
@@ -22,27 +22,27 @@ module _ (l : List ℕ) (i : ℕ) (xs : List ℕ) {r : ℕ} {l′ : List ℕ} wh
   put-told e f = rw (e, f)
 
 -- pieces in two parts
-pub puts-append : (t : Text) (a b : List (List ℕ)) → puts t (a ++ b) ≡ puts (puts t a) b
+pub puts-append : (t : Writing) (a b : List (List ℕ)) → puts t (a ++ b) ≡ puts (puts t a) b
 unfolding puts
 puts-append t [] b = refl
 puts-append t (xs ∷ a) b = puts-append (put t xs) a b
 
 -- no more pieces; and some, by the first
-pub puts-none : (t : Text) → puts t [] ≡ t
+pub puts-none : (t : Writing) → puts t [] ≡ t
 unfolding puts
 puts-none t = refl
 
-pub puts-first : (t : Text) (xs : List ℕ) (xss : List (List ℕ)) {u : Text} → u ≡ put t xs → puts t (xs ∷ xss) ≡ puts u xss
+pub puts-first : (t : Writing) (xs : List ℕ) (xss : List (List ℕ)) {u : Writing} → u ≡ put t xs → puts t (xs ∷ xss) ≡ puts u xss
 unfolding puts
 puts-first t xs xss e = rw e
 
 -- one piece more, or some more, behind a text that is known
-module _ {t u v : Text} (e : u ≡ t) where
+module _ {t u v : Writing} (e : u ≡ t) where
   pub and-put : (xs : List ℕ) → v ≡ put u xs → v ≡ put t xs
-  and-put xs f = f ∙ ap (λ (w : Text). put w xs) e
+  and-put xs f = f ∙ ap (λ (w : Writing). put w xs) e
 
   pub and-puts : (xss : List (List ℕ)) → v ≡ puts u xss → v ≡ puts t xss
-  and-puts xss f = f ∙ ap (λ (w : Text). puts w xss) e
+  and-puts xss f = f ∙ ap (λ (w : Writing). puts w xss) e
 
 -- a piece written into the memory behind an index
 abbrev pub nextOf : ℕ → Written → ℕ

@@ -4,19 +4,19 @@ use mathlib.Core.List.{List, [], _∷_, _++_}
 use Rattle.basis.specs.Store.{stored, after}
 
 -- the memory, and the index behind what was put into it
-pub record Text : Type 0 where
+pub record Writing : Type 0 where
   pub memory : List ℕ
   pub next : ℕ
 
-abbrev pub text : List ℕ → ℕ → Text
+abbrev pub text : List ℕ → ℕ → Writing
 text l i = record { memory = l; next = i }
 
 -- one piece more
-unfoldable pub put : Text → List ℕ → Text
+unfoldable pub put : Writing → List ℕ → Writing
 put t xs = text (stored (t .memory) (t .next) xs) (after (t .memory) (t .next) xs)
 
 -- some pieces more
-unfoldable pub puts : Text → List (List ℕ) → Text
+unfoldable pub puts : Writing → List (List ℕ) → Writing
 puts t [] = t
 puts t (xs ∷ xss) = puts (put t xs) xss
 

@@ -7,16 +7,13 @@ ghost use lib.ListN.{length, drop};
 ghost use Rattle.display.specs.Decimal.{decimal};
 ghost use Rattle.display.specs.Forms.{debugOf};
 ghost use Rattle.listed.specs.Texts.{text, put, puts};
-ghost use Rattle.listed.specs.Listing.{hexDigit, hexByte, hexOf, kindOf, lineOf, partOf, bytesOf, entryOf, entriesLines, endingOf, runLines, listingOf};
+ghost use Rattle.listed.specs.Listing.{hexDigit, hexByte, hexOf, kindWord, tokenLine, partAt, tokenBytes, entryLine, entriesLines, endingLine, runLines, listingOf};
 use display::Shown;
+use entry::Entry;
+use entry::kinds;
 use lent::Written;
 use position::Position;
 use reading::Ending;
-
-// The first kind of literal, and the last.
-const STRING: u32 = 5;
-
-const CHAR: u32 = 9;
 
 // Who puts a piece into `out` is told the index that it goes to, and answers the index behind it: a piece that has no room is
 // left out.
@@ -67,7 +64,7 @@ fn put_hex(bytes: &[u8], out: &mut [u8], at: usize) -> usize
 }
 
 fn put_kind(kind: u32, out: &mut [u8], at: usize) -> usize
-    ensures { λ r. ⌜ text (now (out .exit)) r ≡ put (text (now (out .entry)) at) (kindOf kind) ⌝ }
+    ensures { λ r. ⌜ text (now (out .exit)) r ≡ put (text (now (out .entry)) at) (kindWord kind) ⌝ }
 {
     match kind {
         1 => put_word(b"name", out, at),
@@ -117,7 +114,7 @@ fn put_number(n: u8, out: &mut [u8], at: usize) -> usize
 
 // A part of some bytes; empty where they do not have it.
 fn part<'a>(bytes: &'a [u8], at: usize, len: usize) -> &'a [u8]
-    ensures { λ r. ⌜ now r ≡ partOf (now (bytes .entry)) at len ⌝ }
+    ensures { λ r. ⌜ now r ≡ partAt (now (bytes .entry)) at len ⌝ }
 {
     if bytes.len() < at {
         return &bytes[..0];
@@ -140,19 +137,19 @@ fn coordinate(n: u32) -> u16
 
 // The bytes of an entry: those of literals are packed, all else is a part of the script.
 fn bytes_of<'a>(script: &'a [u8], literals: &'a [u8], kind: u32, at: u32, len: u32) -> &'a [u8]
-    ensures { λ r. ⌜ now r ≡ bytesOf (now (script .entry)) (now (literals .entry)) kind at len ⌝ }
+    ensures { λ r. ⌜ now r ≡ tokenBytes (now (script .entry)) (now (literals .entry)) kind at len ⌝ }
 {
-    if kind < STRING {
+    if kind < (kinds::STRING as u32) {
         return part(script, at as usize, len as usize);
     }
-    if CHAR < kind {
+    if (kinds::CHAR as u32) < kind {
         return part(script, at as usize, len as usize);
     }
     part(literals, at as usize, len as usize)
 }
 
 fn put_line(place: Position, kind: u32, bytes: &[u8], out: &mut [u8], at: usize) -> usize
-    ensures { λ r. ⌜ text (now (out .exit)) r ≡ puts (text (now (out .entry)) at) (lineOf place kind (now (bytes .entry))) ⌝ }
+    ensures { λ r. ⌜ text (now (out .exit)) r ≡ puts (text (now (out .entry)) at) (tokenLine place kind (now (bytes .entry))) ⌝ }
 {
     let mut n = put_place(place, &mut *out, at);
     n = put_byte(b' ', &mut *out, n);
@@ -172,7 +169,7 @@ fn put_entry<'a>(
     at: usize,
 ) -> usize
     requires { ⌜ i + 5 ≤ length (now entries) ⌝ }
-    ensures { λ r. ⌜ text (now (out .exit)) r ≡ puts (text (now (out .entry)) at) (entryOf (now (script .entry)) (now (literals .entry)) (drop i (now (entries .entry)))) ⌝ }
+    ensures { λ r. ⌜ text (now (out .exit)) r ≡ puts (text (now (out .entry)) at) (entryLine (now (script .entry)) (now (literals .entry)) (drop i (now (entries .entry)))) ⌝ }
 {
     let kind = entries[i];
     let place = Position::given(coordinate(entries[i + 1]), coordinate(entries[i + 2]));
@@ -193,14 +190,14 @@ fn put_entries<'a>(
     let mut at = 0;
     let mut n = 0;
     while n < listed {
-        at = put_entry(script, literals, entries, 5 * n, &mut *out, at);
+        at = put_entry(script, literals, entries, Entry::NUMBERS * n, &mut *out, at);
         n += 1;
     }
     at
 }
 
 fn put_ending(ending: Ending, out: &mut [u8], at: usize) -> usize
-    ensures { λ r. ⌜ text (now (out .exit)) r ≡ puts (text (now (out .entry)) at) (endingOf ending) ⌝ }
+    ensures { λ r. ⌜ text (now (out .exit)) r ≡ puts (text (now (out .entry)) at) (endingLine ending) ⌝ }
 {
     match ending {
         Ending::End(place) => {

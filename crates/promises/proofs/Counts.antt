@@ -10,7 +10,8 @@ use borrow.Author.Tests.{ne-eqb}
 use Rattle.basis.proofs.Bounds.{split}
 use Rattle.utf8.specs.Encode.{encode}
 use Rattle.utf8.proofs.Encodes.{enc1, enc2, enc3, enc4}
-use Rattle.raw_writer.specs.Writer.{quote, hash, mostAfterQuote}
+use Rattle.raw_writer.specs.Writer.{mostAfterQuote}
+use Rattle.classes.specs.Marks.{quote, hash}
 
 -- a byte is neither a quote nor a hash; and so all of some bytes
 abbrev Other : ℕ → Type 0

@@ -11,11 +11,13 @@ use Rattle.utf8.specs.Encode.{encode, encodeAll, allScalar, isScalar}
 use Rattle.utf8.proofs.Unicode.{scalars-well}
 use Rattle.lent.specs.Written.{writtenOf, leftOf}
 use Rattle.lent.specs.declared.Written.the-variants.{Done}
-use Rattle.raw_writer.specs.Writer.{quote, hash, hashesAhead, mostAfterQuote, hashesFor, literalOf, refusesOf, rawWriteOf, rawLeftOf}
+use Rattle.raw_writer.specs.Writer.{hashesAhead, mostAfterQuote, hashesFor, rawLiteralOf, rawWriteOf, rawLeftOf}
+use Rattle.classes.specs.Marks.{quote, hash}
+use Rattle.door.specs.Door.{textOf}
 use Rattle.promises.specs.LargeBodies.{Too-long-first, Long-written}
 
 pub too-long-first : Too-long-first
-unfolding refusesOf rawWriteOf rawLeftOf
+unfolding textOf rawWriteOf rawLeftOf
 too-long-first body memory h = rw (lt-ltb 16777216 (length body) h) (refl, refl)
 
 -- a run of hashes
@@ -69,15 +71,15 @@ module _ (n : ℕ) where
   unfolding body hashesFor mostAfterQuote
   hashes = rw (run-ahead n, run-most n) (omega arith)
 
-  size : length (literalOf body) ≡ 3 * n + 5
-  unfolding literalOf
+  size : length (rawLiteralOf body) ≡ 3 * n + 5
+  unfolding rawLiteralOf
   size = literal-length (hashesFor body) body ∙ omega (arith, hashes, body-length)
 
-  accepts : n < 16777216 → refusesOf body ≡ 0
-  unfolding refusesOf
+  accepts : n < 16777216 → textOf body ≡ 0
+  unfolding textOf
   accepts h = rw (le-ltb 16777216 (length body) (omega (arith, body-length)), body-well)
 
 pub long-written : Long-written
 unfolding body rawWriteOf rawLeftOf writtenOf leftOf
 long-written n memory h room =
-    rw (accepts n h, le-ltb (length memory) (length (literalOf (body n))) (omega (arith, size n))) (ap Done (size n), refl)
+    rw (accepts n h, le-ltb (length memory) (length (rawLiteralOf (body n))) (omega (arith, size n))) (ap Done (size n), refl)

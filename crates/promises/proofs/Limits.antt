@@ -2,10 +2,12 @@
 use mathlib.Core.Logic.{_⊎_, inl, inr}
 use mathlib.Core.Path.{_≡_, sym, _∙_}
 use Rattle.reading.specs.Reading.{Reading}
-use Rattle.reading.specs.CutRun.{Bounds, cutRun}
+use Rattle.reading.specs.CutRun.{cutRun}
+use Rattle.reading.specs.declared.Bounds.{Bounds}
 use Rattle.reading.specs.Limits.{Fair}
 use Rattle.reading.proofs.Limits.{lists-the-first, repeats, recurs, stops-there, whole-else, only-there, first-decided}
-use Rattle.run.specs.Run.{readingOf, runOf}
+use Rattle.script.specs.Rules.{document01}
+use Rattle.run.specs.Run.{runReading, runOf}
 use Rattle.run.proofs.Fair.{reading-fair}
 use Rattle.promises.specs.Limits.{Run, First-that-passes, Limits-only-cut, Ours-meet, No-other}
 
@@ -31,8 +33,8 @@ module _ (r : Reading) (fair : Fair r) where
 
 pub ours-meet : Ours-meet
 unfolding runOf
-ours-meet script book = cut-meets (readingOf script book) (reading-fair script book)
+ours-meet script book = cut-meets (runReading document01 script book) (reading-fair document01 script book)
 
 pub no-other : No-other
 unfolding runOf
-no-other script book run demand b = only-cut (readingOf script book) (reading-fair script book) run demand b
+no-other script book run demand b = only-cut (runReading document01 script book) (reading-fair document01 script book) run demand b

@@ -8,32 +8,34 @@ use lib.Seq.{take-at, drop-at}
 use Rattle.numbers.specs.Spell.{spell, spelled, value}
 use Rattle.numbers.proofs.Rows.{length-spell, length-spelled}
 use Rattle.numbers.proofs.Whole.{spell-tells}
-use Rattle.reading.specs.Entries.{numbersOf, laidOut, U32s}
-use Rattle.reading.specs.Told.{numberOf, placeOf, partOf}
-use Rattle.reading.specs.declared.Entry.{Entry}
+use Rattle.entry.specs.Entries.{numbersOf, laidOut, U32s}
+use Rattle.reading.specs.Reading.{entries, literalBytes}
+use Rattle.reading.specs.Told.{endingNumber, endingPlace, endingPart}
+use Rattle.entry.specs.declared.Entry.{Entry}
 use Rattle.reading.specs.declared.Ending.{Ending}
 use Rattle.reading.specs.declared.Ending.the-variants.{End, Stop}
 use Rattle.reading.proofs.Small.{Ending-small}
+use Rattle.script.specs.Rules.{document01}
 use Rattle.run.specs.Run.{runOf}
 use Rattle.run.proofs.Short.{run-small}
 use Rattle.run.proofs.Small.{run-fits-u32}
-use Rattle.run.specs.Bytes.{bytesOf}
+use Rattle.run.specs.Bytes.{entryBytes}
 use Rattle.stew.specs.RunAnswer.{tellsOf}
 use Rattle.promises.specs.Numbers.{entryNumbers, answerNumbers, Numbers-fit, Bytes-tell}
 
 -- ---- the seven
 seven-fit : (e : Ending) → Ending-small 16777216 e → (listed used : ℕ) → listed ≤ 16777216 → used ≤ 67108864 → U32s (tellsOf e listed used)
-unfolding tellsOf numberOf placeOf partOf
+unfolding tellsOf endingNumber endingPlace endingPart
 seven-fit (End p) h listed used l m = (omega arith, (omega (arith, h .line), (omega (arith, h .column), (omega arith, (omega arith, (omega arith, (omega arith, tt)))))))
 seven-fit (Stop f) h listed used l m =
     (omega (arith, h .number), (omega (arith, h .place .line), (omega (arith, h .place .column), (omega arith, (omega arith, (omega (arith, h .at), (omega (arith, h .len), tt)))))))
 
 pub numbers-fit : Numbers-fit
 numbers-fit script book b =
-    let l = runOf b script book in
-    let fit = run-fits-u32 b script book in
-    let few = run-small b script book in
-    record { entries = fit .0; answer = seven-fit (l .ending) (fit .1) (length (l .listed)) (length (l .packed)) (few .0) (few .1) }
+    let l = runOf document01 b script book in
+    let fit = run-fits-u32 document01 b script book in
+    let few = run-small document01 b script book in
+    record { entries = fit .0; answer = seven-fit (l .ending) (fit .1) (length (entries (l .tokens))) (length (literalBytes (l .tokens))) (few .0) (few .1) }
 
 -- ---- bytes
 -- as many numbers, spelt alike, are the same
@@ -55,8 +57,8 @@ spelled-both [] ms = refl
 spelled-both (n ∷ ns) ms = ap (λ (l : List ℕ). spell 4 n ++ l) (spelled-both ns ms) ∙ sym (append-assoc (spell 4 n) (spelled 4 ns) (spelled 4 ms))
 
 -- entries as bytes are their numbers, four bytes each
-laid-spelled : (es : List Entry) → laidOut bytesOf es ≡ spelled 4 (laidOut numbersOf es)
-unfolding laidOut bytesOf spelled
+laid-spelled : (es : List Entry) → laidOut entryBytes es ≡ spelled 4 (laidOut numbersOf es)
+unfolding laidOut entryBytes spelled
 laid-spelled [] = refl
 laid-spelled (e ∷ es) = ap (λ (l : List ℕ). spelled 4 (numbersOf e) ++ l) (laid-spelled es) ∙ sym (spelled-both (numbersOf e) (laidOut numbersOf es))
 
@@ -66,11 +68,11 @@ as-many ns ms e = omega (arith, ap (λ (l : List ℕ). length l) e, length-spell
 
 pub bytes-tell : Bytes-tell
 bytes-tell script script′ book book′ b b′ =
-    let l = runOf b script book in
-    let m = runOf b′ script′ book′ in
+    let l = runOf document01 b script book in
+    let m = runOf document01 b′ script′ book′ in
     let f = numbers-fit script book b in
     let g = numbers-fit script′ book′ b′ in
     record {
-      entries = λ e. let q = sym (laid-spelled (l .listed)) ∙ e ∙ laid-spelled (m .listed) in spelt-alike (entryNumbers l) (entryNumbers m) (f .entries) (g .entries) (as-many (entryNumbers l) (entryNumbers m) q) q;
+      entries = λ e. let q = sym (laid-spelled (entries (l .tokens))) ∙ e ∙ laid-spelled (entries (m .tokens)) in spelt-alike (entryNumbers l) (entryNumbers m) (f .entries) (g .entries) (as-many (entryNumbers l) (entryNumbers m) q) q;
       answer = λ e. spelt-alike (answerNumbers l) (answerNumbers m) (f .answer) (g .answer) (as-many (answerNumbers l) (answerNumbers m) e) e;
     }

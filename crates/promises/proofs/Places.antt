@@ -9,8 +9,8 @@ use Rattle.basis.proofs.Cases.{pick-cases, both-no}
 use Rattle.position.specs.declared.Position.{Position}
 use Rattle.position.specs.Place.{none, isNone, onLine, orElse, advanced, lined}
 use Rattle.position.proofs.Moves.{advanced-on, lined-on, none-none}
-use Rattle.raw.specs.Raw.{lf}
 use Rattle.promises.specs.LiteralPlaces.{columns, behindChar}
+use Rattle.classes.specs.Marks.{lf}
 
 -- ---- the first place
 pub unset : (p : Position) → orElse none p ≡ p

@@ -26,14 +26,16 @@ use Rattle.chars.proofs.Cursors.{ate}
 use Rattle.chars.proofs.Scans.{move-over}
 use Rattle.literal.specs.Trace.{Trace, ends, bytes, final, good}
 use Rattle.literal.specs.declared.End.{End}
-use Rattle.raw.specs.Opening.{nothing}
+use Rattle.literal.specs.Answers.{nothing}
+use Rattle.classes.specs.Marks.{lf}
 use Rattle.raw.specs.declared.open.Opened.the-variants.{At}
 use Rattle.raw.proofs.open.Openings.{counting, hash-on, quote-on}
-use Rattle.raw.specs.Raw.{lf, asSource, ended, Body, body, rule}
+use Rattle.raw.specs.Raw.{asSource, rawEnd, BodyState, bodyState, bodyRule}
 use Rattle.raw.specs.Step.{Adds}
 use Rattle.raw.proofs.scan.Loops.{went-on}
 use Rattle.raw.proofs.scan.Turns.{quote-adds, hash-closes, hash-adds, line-adds, plain-adds, failed-adds}
-use Rattle.raw_writer.specs.Writer.{quote, hash, hashesAhead, mostAfterQuote}
+use Rattle.raw_writer.specs.Writer.{hashesAhead, mostAfterQuote}
+use Rattle.classes.specs.Marks.{quote, hash}
 use Rattle.raw_writer.proofs.Hashes.{byte-cases, reach}
 use Rattle.promises.specs.LiteralPlaces.{columns, attempts, behindChar, behindAll, behindFirst}
 use Rattle.promises.proofs.Counts.{quote-bytes, hash-bytes, other-most}
@@ -91,45 +93,45 @@ reach-some zero cs h = absurd (omega arith)
 reach-some (suc n) cs h = refl
 
 module _ (t : List ℕ) (start : Position) (k : ℕ) where
-  abbrev rest : ℕ → Body → Trace
-  rest at s = runAt (rule asSource start k) t at s
+  abbrev rest : ℕ → BodyState → Trace
+  rest at s = runAt (bodyRule asSource start k) t at s
 
   -- a step that adds n bytes, before the rest
-  step-on : {at : ℕ} {s : Body} {n next : ℕ} {r : Body} {m : ℕ} {e : End} → Adds asSource t k at s n next r → Reads (rest next r) m e → Reads (rest at s) (n + m) e
+  step-on : {at : ℕ} {s : BodyState} {n next : ℕ} {r : BodyState} {m : ℕ} {e : End} → Adds asSource t k at s n next r → Reads (rest next r) m e → Reads (rest at s) (n + m) e
   unfolding bytes final
   step-on {at} {s} {n} {next} {r} {m} {e} a i =
       let w = went-on asSource start t k at s a in
       record { size = rw w (length-append (a .bytes) (bytes (rest next r)) ∙ rw (a .count, i .size)); ends = rw w (i .ends) }
 
   -- the closing hashes: one is the k-th of the attempt, j hashes on
-  closes : (j at : ℕ) (s : Body) (l : List ℕ) → 0 < s .held → s .held + j ≡ k → isNone (s .first) ≡ false → drop at t ≡ replicate (suc j) hash ++ l
-      → Reads (rest at s) 0 (ended (cursor (at + suc j) (columns (suc j) (s .place))) (s .first) nothing)
+  closes : (j at : ℕ) (s : BodyState) (l : List ℕ) → 0 < s .held → s .held + j ≡ k → isNone (s .first) ≡ false → drop at t ≡ replicate (suc j) hash ++ l
+      → Reads (rest at s) 0 (rawEnd (cursor (at + suc j) (columns (suc j) (s .place))) (s .first) nothing)
   unfolding columns bytes final
   closes zero at s l z n f e =
-      let o = move-over (rule asSource start k) t at s (hash-closes asSource t k at s (eats-hash t at (s .place) l e) refl z (omega arith) start) in
+      let o = move-over (bodyRule asSource start k) t at s (hash-closes asSource t k at s (eats-hash t at (s .place) l e) refl z (omega arith) start) in
       record { size = rw o; ends = rw o }
   closes (suc j) at s l z n f e =
       let a = hash-adds asSource t k at s (eats-hash t at (s .place) (replicate (suc j) hash ++ l) e) refl z (λ q. omega arith) in
-      let i = closes j (at + 1) (body (s .held + 1) (advanced (s .place)) (s .first)) l (omega arith) (omega arith) f (one-further t at hash (replicate (suc j) hash ++ l) e) in
+      let i = closes j (at + 1) (bodyState (s .held + 1) (advanced (s .place)) (s .first)) l (omega arith) (omega arith) f (one-further t at hash (replicate (suc j) hash ++ l) e) in
       let y : at + suc (suc j) ≡ at + 1 + suc j = omega arith in
       rw y (step-on (rw (stays (s .first) (advanced (s .place)) f) at a) i)
 
   -- a character that does not close, in front of a text that does not: the step adds bytes and holds some back, as many as there were with it, and no run ahead closes
-  record Goes (at : ℕ) (s : Body) (c : ℕ) (cs : List ℕ) : Type 0 where
+  record Goes (at : ℕ) (s : BodyState) (c : ℕ) (cs : List ℕ) : Type 0 where
     added : ℕ
     held : ℕ
-    adds : Adds asSource t k at s added (at + length (encode c)) (body held (behindChar (ltb 0 (s .held)) c (s .place)) (orElse (s .first) (behindChar (ltb 0 (s .held)) c (s .place))))
+    adds : Adds asSource t k at s added (at + length (encode c)) (bodyState held (behindChar (ltb 0 (s .held)) c (s .place)) (orElse (s .first) (behindChar (ltb 0 (s .held)) c (s .place))))
     balance : added + held ≡ s .held + length (encode c)
     attempt : attempts (ltb 0 (s .held)) c ≡ ltb 0 held
     reaches : reach held cs ≤ k
     mosts : mostAfterQuote cs < k
 
-  abbrev Taken : ℕ → Body → List ℕ → ℕ → Type 0
+  abbrev Taken : ℕ → BodyState → List ℕ → ℕ → Type 0
   Taken at s cs c =
       eatNextOf t (cursor at (s .place)) ≡ taken.Char c (cursor (at + length (encode c)) (advanced (s .place)))
       → reach (s .held) (encode c ++ cs) ≤ k → mostAfterQuote (encode c ++ cs) < k → Goes at s c cs
 
-  module _ (at : ℕ) (s : Body) (cs : List ℕ) where
+  module _ (at : ℕ) (s : BodyState) (cs : List ℕ) where
     at-quote : Taken at s cs quote
     unfolding behindChar mostAfterQuote reach
     at-quote e r m =
@@ -177,11 +179,11 @@ module _ (t : List ℕ) (start : Position) (k : ℕ) where
     -- any other character is kept, behind what was held back
     module _ (c : ℕ) (q : eqb c quote ≡ false) (h : eqb c hash ≡ false) where
       kept : (p : Position) → p ≡ behindChar (ltb 0 (s .held)) c (s .place) → (n : ℕ) → n ≡ s .held + length (encode c)
-          → Adds asSource t k at s n (at + length (encode c)) (body 0 p (orElse (s .first) p)) → mostAfterQuote (encode c ++ cs) < k → Goes at s c cs
+          → Adds asSource t k at s n (at + length (encode c)) (bodyState 0 p (orElse (s .first) p)) → mostAfterQuote (encode c ++ cs) < k → Goes at s c cs
       kept p z n y a m = record {
         added = n;
         held = 0;
-        adds = subst (λ (x : Position). Adds asSource t k at s n (at + length (encode c)) (body 0 x (orElse (s .first) x))) z a;
+        adds = subst (λ (x : Position). Adds asSource t k at s n (at + length (encode c)) (bodyState 0 x (orElse (s .first) x))) z a;
         balance = omega arith;
         attempt = rw (q, h, both-no (ltb 0 (s .held)));
         reaches = rw (reach-none 0 cs (omega arith)) (omega arith);
@@ -205,31 +207,31 @@ module _ (t : List ℕ) (start : Position) (k : ℕ) where
               kept (advanced (s .place)) (sym (behind-other c (s .place) (ltb 0 (s .held)) (eqb-false c lf y))) (at + length (encode c) - at) (omega arith)
               (plain-adds asSource t k at s e (eqb-false c quote q) z refl (eqb-false c lf y)) m
 
-  goes : (at : ℕ) (s : Body) (cs : List ℕ) (c : ℕ) → Taken at s cs c
+  goes : (at : ℕ) (s : BodyState) (cs : List ℕ) (c : ℕ) → Taken at s cs c
   goes at s cs c = byte-cases (Taken at s cs) c (at-quote at s cs) (at-hash at s cs) (at-other at s cs c)
 
   -- what is to be shown of a body of characters, in a state at an offset
-  abbrev Read : List ℕ → ℕ → Body → Type 0
+  abbrev Read : List ℕ → ℕ → BodyState → Type 0
   Read cs at s =
       Reads (rest at s) (s .held + length (encodeAll cs))
-      (ended (cursor (at + length (encodeAll cs) + suc k) (columns (suc k) (behindAll (ltb 0 (s .held)) cs (s .place))))
+      (rawEnd (cursor (at + length (encodeAll cs) + suc k) (columns (suc k) (behindAll (ltb 0 (s .held)) cs (s .place))))
       (orElse (s .first) (behindFirst (ltb 0 (s .held)) cs (s .place))) nothing)
 
   -- it ends
-  closed : (at : ℕ) (s : Body) (l : List ℕ) → 0 < k → onLine (s .place) ≡ true → drop at t ≡ quote ∷ replicate k hash ++ l → Read [] at s
+  closed : (at : ℕ) (s : BodyState) (l : List ℕ) → 0 < k → onLine (s .place) ≡ true → drop at t ≡ quote ∷ replicate k hash ++ l → Read [] at s
   unfolding encodeAll columns behindAll behindFirst
   closed at s l m o e =
       let p = advanced (s .place) in
       let u = on-some p (advanced-on (s .place) ∙ o) in
       let j : suc (k - 1) ≡ k = omega arith in
       let d : drop (at + 1) t ≡ replicate (suc (k - 1)) hash ++ l = one-further t at quote (replicate k hash ++ l) e ∙ ap (λ (n : ℕ). replicate n hash ++ l) (sym j) in
-      let i = closes (k - 1) (at + 1) (body 1 p (orElse (s .first) p)) l (omega arith) (omega arith) (is-set (s .first) p u) d in
+      let i = closes (k - 1) (at + 1) (bodyState 1 p (orElse (s .first) p)) l (omega arith) (omega arith) (is-set (s .first) p u) d in
       let n : at + 0 + suc k ≡ at + 1 + k = omega arith in
       rw n (step-on (quote-adds asSource t k at s (eats-quote t at (s .place) (replicate k hash ++ l) e) refl) (rw j at i))
 
   -- a character goes before it
-  one-more : (at : ℕ) (s : Body) (c : ℕ) (cs : List ℕ) → onLine (s .place) ≡ true → (g : Goes at s c (encodeAll cs))
-      → Read cs (at + length (encode c)) (body (g .held) (behindChar (ltb 0 (s .held)) c (s .place)) (orElse (s .first) (behindChar (ltb 0 (s .held)) c (s .place)))) → Read (c ∷ cs) at s
+  one-more : (at : ℕ) (s : BodyState) (c : ℕ) (cs : List ℕ) → onLine (s .place) ≡ true → (g : Goes at s c (encodeAll cs))
+      → Read cs (at + length (encode c)) (bodyState (g .held) (behindChar (ltb 0 (s .held)) c (s .place)) (orElse (s .first) (behindChar (ltb 0 (s .held)) c (s .place)))) → Read (c ∷ cs) at s
   unfolding encodeAll behindAll behindFirst
   one-more at s c cs o g i =
       let p = behindChar (ltb 0 (s .held)) c (s .place) in
@@ -239,7 +241,7 @@ module _ (t : List ℕ) (start : Position) (k : ℕ) where
       rw (n, z, g .attempt, ← set-once (s .first) p (behindFirst (ltb 0 (g .held)) cs p) (on-some p (behind-on c (s .place) (ltb 0 (s .held)) o))) (step-on (g .adds) i)
 
   -- a body that nothing in it closes, and the quote and k hashes that do
-  pub reads : (cs : List ℕ) (at : ℕ) (s : Body) (l : List ℕ) → allScalar cs ≡ true → drop at t ≡ encodeAll cs ++ (quote ∷ replicate k hash ++ l)
+  pub reads : (cs : List ℕ) (at : ℕ) (s : BodyState) (l : List ℕ) → allScalar cs ≡ true → drop at t ≡ encodeAll cs ++ (quote ∷ replicate k hash ++ l)
       → onLine (s .place) ≡ true → reach (s .held) (encodeAll cs) ≤ k → mostAfterQuote (encodeAll cs) < k → Read cs at s
   unfolding encodeAll allScalar
   reads [] at s l y e o r m = closed at s l (omega (arith, m)) o e
@@ -249,5 +251,5 @@ module _ (t : List ℕ) (start : Position) (k : ℕ) where
       let g = goes at s (encodeAll cs) c (eats t at (s .place) c tail (both-left (isScalar c) (allScalar cs) y) a) r m in
       let p = behindChar (ltb 0 (s .held)) c (s .place) in
       one-more at s c cs o g
-      (reads cs (at + length (encode c)) (body (g .held) p (orElse (s .first) p)) l (both-right (isScalar c) (allScalar cs) y) (further t at (encode c) tail a)
+      (reads cs (at + length (encode c)) (bodyState (g .held) p (orElse (s .first) p)) l (both-right (isScalar c) (allScalar cs) y) (further t at (encode c) tail a)
       (behind-on c (s .place) (ltb 0 (s .held)) o) (g .reaches) (g .mosts))

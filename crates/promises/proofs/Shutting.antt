@@ -10,7 +10,7 @@ use Rattle.position.proofs.Moves.{start-on}
 use Rattle.utf8.specs.Table.{look, wellFrom, well}
 use Rattle.literal.specs.Told.{Told}
 use Rattle.literal.proofs.Turns.{no-limit}
-use Rattle.raw_writer.specs.Writer.{hashesAhead, mostAfterQuote, hashesFor, literalOf}
+use Rattle.raw_writer.specs.Writer.{hashesAhead, mostAfterQuote, hashesFor, rawLiteralOf}
 use Rattle.promises.specs.RoundTrip.{Writer, Scanner, made, Comes-back, Reads-back, Refuses-all, Fixed-body, Invents-count, Writes-nothing, Shuts-out}
 
 module _ (w : Writer) (s : Scanner) (demand : Reads-back w s) where
@@ -29,15 +29,15 @@ module _ (w : Writer) (s : Scanner) (demand : Reads-back w s) where
 
   -- the empty body, `a` and `b`
   none-back : Back []
-  unfolding look wellFrom well hashesAhead mostAfterQuote hashesFor literalOf
+  unfolding look wellFrom well hashesAhead mostAfterQuote hashesFor rawLiteralOf
   none-back = demand [] [] [] lent buffer start 0 refl start-on (refl, omega arith) (omega arith) (no-limit 0 0 refl) (omega arith)
 
   a-back : Back (0x61 ∷ [])
-  unfolding look wellFrom well hashesAhead mostAfterQuote hashesFor literalOf
+  unfolding look wellFrom well hashesAhead mostAfterQuote hashesFor rawLiteralOf
   a-back = demand (0x61 ∷ []) [] [] lent buffer start 0 refl start-on (refl, omega arith) (omega arith) (no-limit 0 1 refl) (omega arith)
 
   b-back : Back (0x62 ∷ [])
-  unfolding look wellFrom well hashesAhead mostAfterQuote hashesFor literalOf
+  unfolding look wellFrom well hashesAhead mostAfterQuote hashesFor rawLiteralOf
   b-back = demand (0x62 ∷ []) [] [] lent buffer start 0 refl start-on (refl, omega arith) (omega arith) (no-limit 0 1 refl) (omega arith)
 
   -- two bodies of one byte do not come back as one
@@ -51,7 +51,7 @@ module _ (w : Writer) (s : Scanner) (demand : Reads-back w s) where
   fixed-body body h = apart (sym (a-back .is-left) ∙ h (text (0x61 ∷ [])) 1 start 0 buffer ∙ sym (h (text (0x62 ∷ [])) 1 start 0 buffer) ∙ b-back .is-left)
 
   invents-count : (count : ℕ → Position → ℕ → List ℕ → ℕ) → Invents-count s count → ⊥
-  unfolding hashesAhead mostAfterQuote hashesFor literalOf
+  unfolding hashesAhead mostAfterQuote hashesFor rawLiteralOf
   invents-count count h =
       let a = ap (λ (t : Told). t .cursor .at) (none-back .is-told) in
       let b = ap (λ (t : Told). t .cursor .at) (a-back .is-told) in
@@ -59,7 +59,7 @@ module _ (w : Writer) (s : Scanner) (demand : Reads-back w s) where
       omega arith
 
   writes-nothing : Writes-nothing w → ⊥
-  unfolding hashesAhead mostAfterQuote hashesFor literalOf
+  unfolding hashesAhead mostAfterQuote hashesFor rawLiteralOf
   writes-nothing h =
       let a : text (0x61 ∷ []) ≡ lent = rw (a-back .is-written, h (0x61 ∷ []) lent) in
       let b : text (0x62 ∷ []) ≡ lent = rw (b-back .is-written, h (0x62 ∷ []) lent) in

@@ -10,7 +10,8 @@ use Rattle.utf8.specs.Table.{chars, codes, well}
 use Rattle.utf8.specs.Encode.{isScalar, encode, encodeAll, allScalar}
 use Rattle.utf8.proofs.Encodes.{scalar-low}
 use Rattle.utf8.proofs.Unicode.{scalars-well, well-encoded}
-use Rattle.raw_writer.specs.Writer.{quote, hash, hashesFor, literalOf}
+use Rattle.raw_writer.specs.Writer.{hashesFor, rawLiteralOf}
+use Rattle.classes.specs.Marks.{quote, hash}
 use Rattle.promises.specs.RoundTrip.{Stands-anywhere}
 use Rattle.promises.proofs.Counts.{quote-bytes, hash-bytes}
 
@@ -41,12 +42,12 @@ unfolding encodeAll allScalar
 hashes-well zero = scalars-well [] refl
 hashes-well (suc n) = well-both (hash ∷ []) (replicate n hash) (rw hash-bytes at (scalars-well (hash ∷ []) (rw (scalar-low hash (omega arith)) refl))) (hashes-well n)
 
-literal-well : (body : List ℕ) → well body ≡ true → well (literalOf body) ≡ true
-unfolding literalOf
+literal-well : (body : List ℕ) → well body ≡ true → well (rawLiteralOf body) ≡ true
+unfolding rawLiteralOf
 literal-well body y =
     let h = hashes-well (hashesFor body) in
     well-both (replicate (hashesFor body) hash ++ quote ∷ body) (quote ∷ replicate (hashesFor body) hash) (well-both (replicate (hashesFor body) hash) (quote ∷ body) h (well-both (quote ∷ []) body quote-well y))
     (well-both (quote ∷ []) (replicate (hashesFor body) hash) quote-well h)
 
 pub stands-anywhere : Stands-anywhere
-stands-anywhere body before after y a b = well-both (before ++ literalOf body) after (well-both before (literalOf body) a (literal-well body y)) b
+stands-anywhere body before after y a b = well-both (before ++ rawLiteralOf body) after (well-both before (rawLiteralOf body) a (literal-well body y)) b

@@ -5,7 +5,8 @@ use mathlib.Core.Path.{_≡_}
 use lib.ListN.{length, replicate}
 use Rattle.basis.specs.Store.{over}
 use Rattle.lent.specs.declared.Written.the-variants.{Done, Refused}
-use Rattle.raw_writer.specs.Writer.{quote, hash, literalOf, rawWriteOf, rawLeftOf}
+use Rattle.raw_writer.specs.Writer.{rawLiteralOf, rawWriteOf, rawLeftOf}
+use Rattle.classes.specs.Marks.{quote, hash}
 
 -- a body that is too long is 2, whatever it holds and whatever the room
 abbrev pub Too-long-first : Type 0
@@ -18,4 +19,4 @@ Long-written =
     → n < 16777216
     → 3 * n + 5 ≤ length memory
     → (rawWriteOf (quote ∷ replicate n hash) memory ≡ Done (3 * n + 5))
-    × (rawLeftOf (quote ∷ replicate n hash) memory ≡ over (literalOf (quote ∷ replicate n hash)) memory)
+    × (rawLeftOf (quote ∷ replicate n hash) memory ≡ over (rawLiteralOf (quote ∷ replicate n hash)) memory)

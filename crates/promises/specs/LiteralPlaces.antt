@@ -7,9 +7,8 @@ use Rattle.basis.specs.Pick.{pick, both, either, isnt}
 use Rattle.position.specs.declared.Position.{Position}
 use Rattle.position.specs.Place.{advanced, lined}
 use Rattle.utf8.specs.Table.{chars, codes}
-use Rattle.raw.specs.Opening.{quote, hash}
-use Rattle.raw.specs.Raw.{lf}
 use Rattle.raw_writer.specs.Writer.{hashesFor}
+use Rattle.classes.specs.Marks.{quote, hash, lf}
 
 -- n columns on
 unfoldable pub columns : ℕ → Position → Position

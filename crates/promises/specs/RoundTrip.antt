@@ -18,10 +18,10 @@ use Rattle.literal.specs.Told.{Told, told}
 use Rattle.literal.specs.declared.End.{End}
 use Rattle.literal.specs.declared.Scanned.{Scanned}
 use Rattle.literal.specs.declared.Scanned.the-variants as scanned
-use Rattle.raw.specs.Opening.{nothing}
+use Rattle.literal.specs.Answers.{nothing}
 use Rattle.raw.specs.Raw.{asSource}
 use Rattle.raw.specs.Entries.{parseTrace, parseOf}
-use Rattle.raw_writer.specs.Writer.{literalOf, rawWriteOf, rawLeftOf}
+use Rattle.raw_writer.specs.Writer.{rawLiteralOf, rawWriteOf, rawLeftOf}
 use Rattle.promises.specs.LiteralPlaces.{firstPlace, endPlace}
 
 -- ---- the words of the demand
@@ -80,7 +80,7 @@ readBack body n start =
       number = 0;
       place = none;
       about = part 0 0;
-      cursor = cursor (n + length (literalOf body)) (endPlace body start);
+      cursor = cursor (n + length (rawLiteralOf body)) (endPlace body start);
       first = firstPlace body start;
       terminator = nothing;
       len = length body;
@@ -89,7 +89,7 @@ readBack body n start =
 
 -- a body, written with an answer w and scanned behind `before` with an answer r, came back in a buffer, which then holds `left`
 pub record Comes-back (body before : List ℕ) (start : Position) (buffer : List ℕ) (w : Written) (r : Scanned) (left : List ℕ) : Type 0 where
-  pub is-written : w ≡ written.Done (length (literalOf body))
+  pub is-written : w ≡ written.Done (length (rawLiteralOf body))
   pub end : End
   pub is-accepted : r ≡ scanned.Accepted end (length body)
   pub is-told : told r ≡ readBack body (length before) start
@@ -105,8 +105,8 @@ Reads-back w s =
     (body before after lent buffer : List ℕ) (start : Position) (limit : ℕ)
     → Utf8 body
     → Valid start
-    → Admits (before ++ literalOf body ++ after)
-    → Room (literalOf body) lent
+    → Admits (before ++ rawLiteralOf body ++ after)
+    → Room (rawLiteralOf body) lent
     → Within limit body
     → Room body buffer
     → let text = before ++ made (w .answers body lent) (w .leaves body lent) ++ after in
@@ -117,7 +117,7 @@ Round-trip = Reads-back rawWriter rawScanner
 
 -- the whole is UTF-8 wherever the literal of such a body stands between UTF-8 texts, so that no body is left out for want of a text
 abbrev pub Stands-anywhere : Type 0
-Stands-anywhere = (body before after : List ℕ) → Utf8 body → Utf8 before → Utf8 after → Utf8 (before ++ literalOf body ++ after)
+Stands-anywhere = (body before after : List ℕ) → Utf8 body → Utf8 before → Utf8 after → Utf8 (before ++ rawLiteralOf body ++ after)
 
 -- ---- what the demand shuts out, whatever the other of the two does
 -- a scanner that refuses all: by is-accepted, and the number of is-told

@@ -18,10 +18,10 @@ use Rattle.comment.specs.declared.scan.Commented.{Commented}
 use Rattle.comment.specs.declared.scan.Commented.the-variants as commented
 use Rattle.lent.specs.declared.Written.{Written}
 use Rattle.lent.specs.declared.Written.the-variants as lent
+use Rattle.classes.specs.Marks.{quote, backtick}
 use Rattle.raw.specs.Raw.{asSource}
 use Rattle.raw.specs.Entries.{parseTrace, parseOf, resumeTrace, resumeOf}
-use Rattle.string_turn.specs.Kinds.{quote, backtick}
-use Rattle.string.specs.Entry.{traceOf, scanOf}
+use Rattle.string.specs.Entry.{stringTrace, scanOf}
 use Rattle.raw_writer.specs.Writer.{rawWriteOf, rawLeftOf}
 
 -- what an example says
@@ -53,8 +53,8 @@ gives s n p = closes (word s) n p
 abbrev pub givesOpen : String → ℕ → Position → Answer
 givesOpen s n p = opens (word s) n p
 
-abbrev pub closed : ℕ → Position → Answer
-closed n p = leaves 0 n p
+abbrev pub givesClosed : ℕ → Position → Answer
+givesClosed n p = leaves 0 n p
 
 -- a literal that is written, in quotes
 abbrev pub written : String → Answer
@@ -92,25 +92,25 @@ abbrev pub afterHash : String → Answer
 afterHash s = ofLiteral (word s) (parseTrace asSource (word s) 0 (place 1 1)) (parseOf asSource (word s) 0 (place 1 1) 0 100)
 
 -- a raw literal resumed with k hashes, from a place
-abbrev pub resumed : ℕ → Position → String → Answer
-resumed k p s = ofLiteral (word s) (resumeTrace asSource (word s) 0 p k) (resumeOf asSource (word s) 0 p k 0 100)
+abbrev pub resumedAfter : ℕ → Position → String → Answer
+resumedAfter k p s = ofLiteral (word s) (resumeTrace asSource (word s) 0 p k) (resumeOf asSource (word s) 0 p k 0 100)
 
 -- a string literal from 1:1, by its terminator, under a limit
-abbrev pub string : ℕ → ℕ → String → Answer
-string q limit s = ofLiteral (word s) (traceOf (word s) 0 (place 1 1) q) (scanOf (word s) 0 (place 1 1) q limit 100)
+abbrev pub quotedBy : ℕ → ℕ → String → Answer
+quotedBy q limit s = ofLiteral (word s) (stringTrace (word s) 0 (place 1 1) q) (scanOf (word s) 0 (place 1 1) q limit 100)
 
 abbrev pub ordinary : String → Answer
-ordinary s = string quote 0 s
+ordinary s = quotedBy quote 0 s
 
 abbrev pub limited : ℕ → String → Answer
-limited limit s = string quote limit s
+limited limit s = quotedBy quote limit s
 
-abbrev pub text : String → Answer
-text s = string backtick 0 s
+abbrev pub inBackticks : String → Answer
+inBackticks s = quotedBy backtick 0 s
 
 -- a block comment from 1:1, with a level given
-abbrev pub comment : ℕ → String → Answer
-comment level s = ofComment (word s) (scanBlockCommentOf (word s) 0 (place 1 1) level)
+abbrev pub commentFrom : ℕ → String → Answer
+commentFrom level s = ofComment (word s) (scanBlockCommentOf (word s) 0 (place 1 1) level)
 
 -- a body written into a hundred bytes
 abbrev pub body : String → Answer

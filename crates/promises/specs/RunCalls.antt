@@ -6,16 +6,10 @@ use lib.ListN.{length, take, drop}
 use Rattle.fault.specs.declared.Fault.{Fault}
 use Rattle.fault.specs.Faults.{Own}
 use Rattle.literal.specs.Limits.{Looser}
-use Rattle.basis.specs.Store.{over}
-use Rattle.numbers.specs.Spell.{spelled, value}
-use Rattle.reading.specs.Reading.{Left}
-use Rattle.reading.specs.Entries.{numbersOf}
-use Rattle.reading.specs.Told.{numberOf}
+use Rattle.numbers.specs.Spell.{value}
 use Rattle.reading.specs.declared.Ending.the-variants.{Stop}
-use Rattle.run.specs.Run.{ranOf, literalsOf, entriesOf}
-use Rattle.run.specs.declared.Ran.{Ran}
-use Rattle.run.specs.Bytes.{bytesOf}
-use Rattle.stew.specs.RunAnswer.{tellsOf}
+use Rattle.run.specs.Run.{Called}
+use Rattle.stew.specs.RunAnswer.{C-called}
 
 -- the second call's limit is nowhere stricter, and it is lent no less memory
 pub record No-stricter (limit limit′ : ℕ) (literals literals′ entries entries′ : List ℕ) : Type 0 where
@@ -24,16 +18,7 @@ pub record No-stricter (limit limit′ : ℕ) (literals literals′ entries entr
   pub more-entries : length entries ≤ length entries′
 
 -- ---- `run`
--- a call: its answer, and what the memory lent for literal bytes and for entries holds then
-pub record Called : Type 0 where
-  pub answer : Ran
-  pub literals : List ℕ
-  pub entries : List ℕ
-
--- what a call holds then that was lent two memories and has left l: the entries of l, five numbers each, and its literal bytes, each in front of the old rest
-abbrev pub holds : Left → List ℕ → List ℕ → Called
-holds l literals entries = record { answer = ranOf l; literals = literalsOf l literals; entries = entriesOf numbersOf l entries }
-
+-- `Called` and `holds` stand in crate run: a call's answer, and what the memory lent for literal bytes and for entries holds then; and what that is where the run has left l
 -- of two calls
 pub record Repeats-call (first second : Called) : Type 0 where
   -- "larger limits repeat all earlier tokens, same bytes and positions,": the first call's entries are the front of the second's memory, and its literal bytes too
@@ -45,22 +30,7 @@ pub record Repeats-call (first second : Called) : Type 0 where
   pub recurs : ((f : Fault) → first .answer .ending ≡ Stop f → Own f) → second .answer ≡ first .answer
 
 -- ---- `stew_run`
--- a call: the number returned, and what the three slices hold then
-pub record C-called : Type 0 where
-  pub returned : ℕ
-  pub literals : List ℕ
-  pub entries : List ℕ
-  pub answer : List ℕ
-
--- what a call holds then that was lent three memories and has left l: the same, with twenty bytes an entry, and seven numbers of four bytes in front of the old rest of the answer
-abbrev pub C-holds : Left → List ℕ → List ℕ → List ℕ → C-called
-C-holds l literals entries answer = record {
-  returned = numberOf (l .ending);
-  literals = literalsOf l literals;
-  entries = entriesOf bytesOf l entries;
-  answer = over (spelled 4 (tellsOf (l .ending) (length (l .listed)) (length (l .packed)))) answer;
-}
-
+-- `C-called` and `c-holds` stand in crate stew: the number returned, and what the three slices hold then; and what that is where the run has left l
 -- the i-th of the numbers that stand in bytes, four little-endian bytes each
 abbrev pub numberAt : ℕ → List ℕ → ℕ
 numberAt i bytes = value (take 4 (drop (4 * i) bytes))

@@ -2,7 +2,7 @@
 use mathlib.Core.List.{List, [], _∷_, map}
 use mathlib.Core.Path.{_≡_}
 use Rattle.position.specs.Place.{place}
-use Rattle.promises.specs.Rows.{Row, _⇒_, closes, refused, gives, givesOpen, closed, afterHash, resumed, ordinary, limited, text, comment, body, written}
+use Rattle.promises.specs.Rows.{Row, _⇒_, closes, refused, gives, givesOpen, givesClosed, afterHash, resumedAfter, ordinary, limited, inBackticks, commentFrom, body, written}
 
 -- the examples, in the document's order
 abbrev pub table : List Row
@@ -10,12 +10,12 @@ table =
     -- (P) After `#`, `"a"b"#;` gives `a"b`, 6 characters used.
     (afterHash "\"a\"b\"#;" ⇒ gives "a\"b" 6 (place 1 7))
     -- (P) Resumed, k=2: `"#"##` gives `"#`.
-    ∷ (resumed 2 (place 1 1) "\"#\"##" ⇒ gives "\"#" 5 (place 1 6))
+    ∷ (resumedAfter 2 (place 1 1) "\"#\"##" ⇒ gives "\"#" 5 (place 1 6))
     -- (P) Resumed, k=1: `ab"` at the end gives `ab`, open.
-    ∷ (resumed 1 (place 1 1) "ab\"" ⇒ givesOpen "ab" 3 (place 1 4))
+    ∷ (resumedAfter 1 (place 1 1) "ab\"" ⇒ givesOpen "ab" 3 (place 1 4))
     -- (P) Resumed, k=1, from 1:3: quote, LF, `x"#` ends at 1:8; without that first quote, at 2:3.
-    ∷ (resumed 1 (place 1 3) "\"\nx\"#" ⇒ gives "\"\nx" 5 (place 1 8))
-    ∷ (resumed 1 (place 1 3) "\nx\"#" ⇒ gives "\nx" 4 (place 2 3))
+    ∷ (resumedAfter 1 (place 1 3) "\"\nx\"#" ⇒ gives "\"\nx" 5 (place 1 8))
+    ∷ (resumedAfter 1 (place 1 3) "\nx\"#" ⇒ gives "\nx" 4 (place 2 3))
     -- (P) Ordinary `a""b"` gives `a"b`.
     ∷ (ordinary "a\"\"b\"" ⇒ gives "a\"b" 5 (place 1 6))
     -- (P) `\x41\u00e9"` gives bytes 41 c3 a9.
@@ -29,9 +29,9 @@ table =
     ∷ (limited 2 "abc" ⇒ refused 4 (place 1 1))
     ∷ (limited 1 "abc" ⇒ refused 7 (place 1 1))
     -- (P) Text from 1:1, `a\${b` and backtick: `a${b`, ending at 1:6.
-    ∷ (text "a\\${b`" ⇒ gives "a${b" 6 (place 1 6))
+    ∷ (inBackticks "a\\${b`" ⇒ gives "a${b" 6 (place 1 6))
     -- (P) Comment level 1, `/*/ */*/x`: closed, 8 characters used.
-    ∷ (comment 1 "/*/ */*/x" ⇒ closed 8 (place 1 9))
+    ∷ (commentFrom 1 "/*/ */*/x" ⇒ givesClosed 8 (place 1 9))
     -- (P) Body `"##` is written `###""##"###`.
     ∷ (body "\"##" ⇒ written "###\"\"##\"###")
     ∷ []

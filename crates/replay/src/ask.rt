@@ -96,7 +96,7 @@ fn given(kind: usize, case: Case) -> usize {
 }
 
 // How many bytes of `out` a case lends.
-pub fn room(kind: usize, case: Case, out: &[u8]) -> usize
+pub(crate) fn room(kind: usize, case: Case, out: &[u8]) -> usize
     ensures { λ r. ⌜ Counts r (now (out .entry)) ⌝ }
 {
     let n = given(kind, case);
@@ -240,7 +240,7 @@ fn of_script(kind: usize, case: Case, before: &[u8], last: &[u8]) {
 }
 
 // The answer to what is asked.
-pub fn answer(kind: usize, case: Case, texts: &[u8], out: &mut [u8]) {
+pub(crate) fn answer(kind: usize, case: Case, texts: &[u8], out: &mut [u8]) {
     let before = text(case, texts, 1);
     let last = text(case, texts, 0);
     match kind {

@@ -27,7 +27,7 @@ pub struct Case {
 }
 
 // A part of the bytes; an empty one where its ends are not in order or not within them.
-pub fn part<'a>(bytes: &'a [u8], from: usize, to: usize) -> &'a [u8] {
+pub(crate) fn part<'a>(bytes: &'a [u8], from: usize, to: usize) -> &'a [u8] {
     if to <= bytes.len() {
         if from <= to {
             return &bytes[from..to];
@@ -65,7 +65,7 @@ impl Case {
     };
 
     // The number in a field; 0 where there is none.
-    pub fn number(self, i: usize) -> usize {
+    pub(crate) fn number(self, i: usize) -> usize {
         let fields = self.fields;
         if i < 12 {
             return fields[i];
@@ -74,7 +74,7 @@ impl Case {
     }
 
     // A number as a code point.
-    pub fn code(self, i: usize) -> u32 {
+    pub(crate) fn code(self, i: usize) -> u32 {
         let n = self.number(i);
         if n < 0x110000 {
             return n as u32;
@@ -83,7 +83,7 @@ impl Case {
     }
 
     // A number as a token.
-    pub fn token(self, i: usize) -> u8 {
+    pub(crate) fn token(self, i: usize) -> u8 {
         let n = self.number(i);
         if n < 255 {
             return n as u8;
@@ -92,7 +92,7 @@ impl Case {
     }
 
     // Two numbers as a place: line and column.
-    pub fn place(self, i: usize) -> Position {
+    pub(crate) fn place(self, i: usize) -> Position {
         if i < 12 {
             return Position::given(u16_of(self.number(i)), u16_of(self.number(i + 1)));
         }
@@ -112,7 +112,7 @@ impl Case {
 }
 
 // The last text of a case, or the last but so many.
-pub fn text<'a>(case: Case, texts: &'a [u8], back: usize) -> &'a [u8] {
+pub(crate) fn text<'a>(case: Case, texts: &'a [u8], back: usize) -> &'a [u8] {
     match back {
         0 => part(texts, case.second, case.third),
         1 => part(texts, case.first, case.second),
@@ -171,7 +171,7 @@ fn mark(b: u8, mut case: Case) -> Case {
 }
 
 // The next byte of a line.
-pub fn take(b: u8, mut case: Case, texts: &mut [u8]) -> Case {
+pub(crate) fn take(b: u8, mut case: Case, texts: &mut [u8]) -> Case {
     if case.name < 0x100_0000 {
         case.name = case.name * 256 + b as usize;
     }

@@ -105,7 +105,7 @@ fn within(limit: usize, script: &[u8], book: &[u8], literals: &mut [u8], numbers
 }
 
 // A run in the rooms that its case gives.
-pub fn run(case: Case, script: &[u8], book: &[u8]) {
+pub(crate) fn run(case: Case, script: &[u8], book: &[u8]) {
     let mut literals = [BYTE; 256];
     let mut numbers = [NUMBER; 500];
     let room = literal_room(case.number(4), &literals);
@@ -169,14 +169,14 @@ fn last_from(text: &[u8]) -> usize {
 }
 
 // The listing of a script.
-pub fn listing(script: &[u8]) {
+pub(crate) fn listing(script: &[u8]) {
     let mut out = [0u8; 180000];
     let n = listed::list(script, &mut out);
     lines(part(&out, 0, n));
 }
 
 // Its last line, and how many lines it has.
-pub fn last(script: &[u8]) {
+pub(crate) fn last(script: &[u8]) {
     let mut out = [0u8; 180000];
     let n = listed::list(script, &mut out);
     let text = part(&out, 0, n);

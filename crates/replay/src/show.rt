@@ -8,8 +8,8 @@ use places::coordinates::Placed;
 use position::Position;
 use token::Lookup;
 
-// The words of the answers, in 13 bytes each. The kinds of identifier::Word are the numbers of their words.
-const WORDS: [u8; 338] = *b"\
+// The words of the answers, in 13 bytes each. The kinds of an identifier are the numbers of their words.
+const WORDS: [u8; 325] = *b"\
     unknown      \
     name         \
     keyword      \
@@ -22,7 +22,6 @@ const WORDS: [u8; 338] = *b"\
     -            \
     token        \
     reserved     \
-    length       \
     level        \
     ends         \
     record       \
@@ -54,51 +53,49 @@ const EMPTY: u8 = 9;
 
 pub const TOKEN: u8 = 10;
 
-pub const LENGTH: u8 = 12;
+pub const LEVEL: u8 = 12;
 
-pub const LEVEL: u8 = 13;
+const ENDS: u8 = 13;
 
-const ENDS: u8 = 14;
+const RECORD: u8 = 14;
 
-const RECORD: u8 = 15;
+const REFUSED: u8 = 15;
 
-const REFUSED: u8 = 16;
+const AT: u8 = 16;
 
-const AT: u8 = 17;
+pub const PART: u8 = 17;
 
-pub const PART: u8 = 18;
+const FIRST: u8 = 18;
 
-const FIRST: u8 = 19;
+const INTERPOLATED: u8 = 19;
 
-const INTERPOLATED: u8 = 20;
+pub const END: u8 = 20;
 
-pub const END: u8 = 21;
+pub const STOP: u8 = 21;
 
-pub const STOP: u8 = 22;
+pub const LITERALS: u8 = 22;
 
-pub const LITERALS: u8 = 23;
+pub const KEPT: u8 = 23;
 
-pub const KEPT: u8 = 24;
-
-pub const LINES: u8 = 25;
+pub const LINES: u8 = 24;
 
 // Bytes as they are.
-pub fn text(bytes: &[u8]) {
+fn text(bytes: &[u8]) {
     io::write_all(1, bytes);
 }
 
 // One byte as it is.
-pub fn byte(b: u8) {
+pub(crate) fn byte(b: u8) {
     let one = [b];
     text(&one);
 }
 
 // A word of the list.
-pub fn word(n: u8) {
+pub(crate) fn word(n: u8) {
     byte(b' ');
     let words = WORDS;
     let mut at = 13 * n as usize;
-    while at < 338 {
+    while at < 325 {
         let b = words[at];
         if b == b' ' {
             return;
@@ -114,19 +111,19 @@ fn decimal(n: usize) {
 }
 
 // A number.
-pub fn number(n: usize) {
+pub(crate) fn number(n: usize) {
     byte(b' ');
     decimal(n);
 }
 
 // A number with a word before it.
-pub fn labelled(label: u8, n: usize) {
+pub(crate) fn labelled(label: u8, n: usize) {
     word(label);
     number(n);
 }
 
 // A truth value.
-pub fn truth(b: bool) {
+pub(crate) fn truth(b: bool) {
     if b {
         word(TRUE);
         return;
@@ -140,7 +137,7 @@ fn hex_byte(b: u8) {
 }
 
 // Bytes in hex, `-` for none.
-pub fn bytes(b: &[u8]) {
+pub(crate) fn bytes(b: &[u8]) {
     if b.len() == 0 {
         word(EMPTY);
         return;
@@ -154,14 +151,14 @@ pub fn bytes(b: &[u8]) {
 }
 
 // A place as line and column, NONE being 0:0.
-pub fn place(p: Position) {
+pub(crate) fn place(p: Position) {
     number(p.line_number() as usize);
     byte(b':');
     decimal(p.column_number() as usize);
 }
 
 // Where a scan stopped.
-pub fn reached(c: Cursor) {
+pub(crate) fn reached(c: Cursor) {
     labelled(ENDS, c.at);
     place(c.place);
 }
@@ -180,12 +177,12 @@ fn record(t: Terminator) {
 }
 
 // A refusal's number.
-pub fn refused(n: u8) {
+fn refused(n: u8) {
     labelled(REFUSED, n as usize);
 }
 
 // A fault: its number, the place reported, and the part of the script, offset and length.
-pub fn fault(f: Fault) {
+pub(crate) fn fault(f: Fault) {
     refused(f.number);
     word(AT);
     place(f.place);
@@ -194,7 +191,7 @@ pub fn fault(f: Fault) {
 }
 
 // A literal's scan, with what was lent to it.
-pub fn scanned(s: Scanned, out: &[u8]) {
+pub(crate) fn scanned(s: Scanned, out: &[u8]) {
     match s {
         Scanned::Accepted(e, n) => {
             word(OK);
@@ -216,7 +213,7 @@ pub fn scanned(s: Scanned, out: &[u8]) {
 }
 
 // A place, or why there is none.
-pub fn placed(p: Placed) {
+pub(crate) fn placed(p: Placed) {
     match p {
         Placed::At(p) => place(p),
         Placed::Refused(n) => refused(n),
@@ -224,7 +221,7 @@ pub fn placed(p: Placed) {
 }
 
 // A text that was written into what was lent.
-pub fn written(w: Written, out: &[u8]) {
+pub(crate) fn written(w: Written, out: &[u8]) {
     match w {
         Written::Done(n) => {
             byte(b' ');
@@ -237,7 +234,7 @@ pub fn written(w: Written, out: &[u8]) {
 }
 
 // A token, where there is one.
-pub fn token(t: Lookup) {
+pub(crate) fn token(t: Lookup) {
     match t {
         Lookup::Some(n) => labelled(TOKEN, n as usize),
         Lookup::None => word(NONE),

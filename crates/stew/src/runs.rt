@@ -2,7 +2,7 @@
 ghost use mathlib.Core.Path.{_≡_};
 ghost use Prim.Native.Nat.{_≤_};
 ghost use lib.ListN.{getD};
-ghost use Rattle.stew.specs.RunAnswer.{tellsOf, shortNumber, returnedOf, literalsLeft, entriesLeft, answerOf};
+ghost use Rattle.stew.specs.RunAnswer.{tellsOf, runShort, c-called, stewRunOf};
 use fault::Fault;
 use reading::Ending;
 use run::Ran;
@@ -42,7 +42,7 @@ fn row_of(ran: Ran) -> [u64; 7]
 }
 
 fn short_number(script: &[u8], book: &[u8]) -> u32
-    ensures { λ r. ⌜ r ≡ shortNumber (now (script .entry)) (now (book .entry)) ⌝ }
+    ensures { λ r. ⌜ r ≡ runShort (now (script .entry)) (now (book .entry)) ⌝ }
 {
     let number = door::run::refuses(script, book);
     if number == 0 {
@@ -63,10 +63,7 @@ pub extern "C" fn stew_run(
     entries: &mut [u8],
     answer: &mut [u8],
 ) -> u32
-    ensures { λ r. ⌜ r ≡ returnedOf (now (script .entry)) (now (book .entry)) limit (now (literals .entry)) (now (entries .entry)) (now (answer .entry)) ⌝ }
-    ensures { λ r. ⌜ now (literals .exit) ≡ literalsLeft (now (script .entry)) (now (book .entry)) limit (now (literals .entry)) (now (entries .entry)) (now (answer .entry)) ⌝ }
-    ensures { λ r. ⌜ now (entries .exit) ≡ entriesLeft (now (script .entry)) (now (book .entry)) limit (now (literals .entry)) (now (entries .entry)) (now (answer .entry)) ⌝ }
-    ensures { λ r. ⌜ now (answer .exit) ≡ answerOf (now (script .entry)) (now (book .entry)) limit (now (literals .entry)) (now (entries .entry)) (now (answer .entry)) ⌝ }
+    ensures { λ r. ⌜ c-called r (now (literals .exit)) (now (entries .exit)) (now (answer .exit)) ≡ stewRunOf (now (script .entry)) (now (book .entry)) limit (now (literals .entry)) (now (entries .entry)) (now (answer .entry)) ⌝ }
 {
     if answer.len() < 28 {
         return short_number(script, book);

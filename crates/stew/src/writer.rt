@@ -1,13 +1,13 @@
 // The raw writer through C, for the compile tool: `raw_write` on byte slices.
 ghost use mathlib.Core.Path.{_≡_};
-ghost use Rattle.stew.specs.WriteAnswer.{shortNumber, returnedOf, outOf, answerOf};
+ghost use Rattle.stew.specs.WriteAnswer.{shortWriteNumber, writeReturned, outOf, writeAnswer};
 use fault::Fault;
 use lent::Written;
 
 fn short_number(body: &[u8]) -> u32
-    ensures { λ r. ⌜ r ≡ shortNumber (now (body .entry)) ⌝ }
+    ensures { λ r. ⌜ r ≡ shortWriteNumber (now (body .entry)) ⌝ }
 {
-    let number = raw_writer::refuses(body);
+    let number = door::text(body);
     if number == 0 {
         return Fault::NO_LITERAL_ROOM as u32;
     }
@@ -18,9 +18,9 @@ fn short_number(body: &[u8]) -> u32
 // shorter than four bytes, nothing is written.
 #[no_mangle]
 pub extern "C" fn stew_raw_write(body: &[u8], out: &mut [u8], answer: &mut [u8]) -> u32
-    ensures { λ r. ⌜ r ≡ returnedOf (now (body .entry)) (now (out .entry)) (now (answer .entry)) ⌝ }
+    ensures { λ r. ⌜ r ≡ writeReturned (now (body .entry)) (now (out .entry)) (now (answer .entry)) ⌝ }
     ensures { λ r. ⌜ now (out .exit) ≡ outOf (now (body .entry)) (now (out .entry)) (now (answer .entry)) ⌝ }
-    ensures { λ r. ⌜ now (answer .exit) ≡ answerOf (now (body .entry)) (now (out .entry)) (now (answer .entry)) ⌝ }
+    ensures { λ r. ⌜ now (answer .exit) ≡ writeAnswer (now (body .entry)) (now (out .entry)) (now (answer .entry)) ⌝ }
 {
     if answer.len() < 4 {
         return short_number(body);

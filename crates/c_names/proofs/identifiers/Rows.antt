@@ -8,13 +8,13 @@ use Rattle.position.specs.declared.Position.{Position}
 use Rattle.identifier.specs.Identifiers.{identifierOf}
 use Rattle.identifier.specs.Told.{told}
 use Rattle.identifier.specs.declared.scan.Identified.{Identified}
-use Rattle.c_names.specs.IdentifierRow.{listed, rowOf}
+use Rattle.c_names.specs.IdentifierRow.{identifierNumbers, identifierRow}
 
 module _ (t : List ℕ) (at l c : ℕ) (book : List ℕ) where
-  pub row-long : length (rowOf t at l c book) ≡ 8
-  unfolding rowOf
+  pub row-long : length (identifierRow t at l c book) ≡ 8
+  unfolding identifierRow
   row-long = refl
 
-  pub row-is : {p : Position} {s : Identified} {r : List ℕ} → p ≡ given l c → s ≡ identifierOf t at p book → r ≡ listed (told s) → r ≡ rowOf t at l c book
-  unfolding rowOf
+  pub row-is : {p : Position} {s : Identified} {r : List ℕ} → p ≡ given l c → s ≡ identifierOf t at p book → r ≡ identifierNumbers (told s) → r ≡ identifierRow t at l c book
+  unfolding identifierRow
   row-is e f g = rw (g, f, e)

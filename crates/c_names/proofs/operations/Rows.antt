@@ -2,8 +2,8 @@
 use Prim.Native.Nat.{ℕ}
 use mathlib.Core.Path.{_≡_, refl}
 use lib.ListN.{length}
-use Rattle.c_names.specs.OperatorRow.{rowOf}
+use Rattle.c_names.specs.OperatorRow.{operatorRow}
 
-pub row-long : (t : ℕ) → length (rowOf t) ≡ 9
-unfolding rowOf
+pub row-long : (t : ℕ) → length (operatorRow t) ≡ 9
+unfolding operatorRow
 row-long t = refl

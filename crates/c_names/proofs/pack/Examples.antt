@@ -3,7 +3,7 @@ use mathlib.Core.Path.{_≡_, refl}
 use Rattle.position.specs.Place.{none, start, given, lineNumber, columnNumber}
 use Rattle.lent.specs.declared.Written.the-variants as written
 use Rattle.token.specs.declared.Lookup.the-variants as lookup
-use Rattle.c_names.specs.Packed.{packed, refusal, lookupAsNumber, writtenAsNumber}
+use Rattle.c_names.specs.Packed.{packed, refusalAsNumber, lookupAsNumber, writtenAsNumber}
 
 pub record Worked : Type 0 where
   pub no-place : packed none ≡ 0
@@ -15,7 +15,7 @@ pub record Worked : Type 0 where
   pub no-room : writtenAsNumber (written.Refused 9) ≡ 38654705664
 
 pub worked : Worked
-unfolding none start given lineNumber columnNumber packed refusal lookupAsNumber writtenAsNumber
+unfolding none start given lineNumber columnNumber packed refusalAsNumber lookupAsNumber writtenAsNumber
 worked = record {
   no-place = refl;
   a-start = refl;

@@ -7,14 +7,14 @@ use borrow.Author.Tests.{lt-ltb, le-ltb, ne-eqb}
 use Rattle.numbers.specs.Spell.{spelled}
 use Rattle.numbers.specs.Answer.{short}
 use Rattle.numbers.proofs.Rows.{length-spelled}
-use Rattle.c_names.specs.Short.{shortNumber, returnedOr}
+use Rattle.c_names.specs.Short.{shortRowNumber, returnedOr}
 
 module _ (n : ℕ) (row memory : List ℕ) (e : length row ≡ n) (k : ℕ) where
   -- so many bytes
   long : length (spelled 8 row) ≡ n * 8
   long = length-spelled 8 row ∙ ap (λ (m : ℕ). m * 8) e
 
-  pub short-told : length memory < n * 8 → shortNumber k ≡ returnedOr k row memory
+  pub short-told : length memory < n * 8 → shortRowNumber k ≡ returnedOr k row memory
   unfolding short returnedOr
   short-told h = rw (long, lt-ltb (length memory) (n * 8) h)
 
@@ -23,6 +23,6 @@ module _ (n : ℕ) (row memory : List ℕ) (e : length row ≡ n) (k : ℕ) wher
   long-told h = rw (long, le-ltb (length memory) (n * 8) h)
 
 -- every other number is 9
-pub other-number : (n : ℕ) → (n ≡ 1 → ⊥) → (n ≡ 2 → ⊥) → (n ≡ 3 → ⊥) → (n ≡ 14 → ⊥) → 9 ≡ shortNumber n
-unfolding shortNumber
+pub other-number : (n : ℕ) → (n ≡ 1 → ⊥) → (n ≡ 2 → ⊥) → (n ≡ 3 → ⊥) → (n ≡ 14 → ⊥) → 9 ≡ shortRowNumber n
+unfolding shortRowNumber
 other-number n a b c d = rw (ne-eqb n 1 a, ne-eqb n 2 b, ne-eqb n 3 c, ne-eqb n 14 d)

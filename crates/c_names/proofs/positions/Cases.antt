@@ -2,7 +2,7 @@
 use Prim.Native.Nat.{ℕ}
 use native.Mathlib.Omega.{arith}
 use mathlib.Core.Path.{_≡_}
-use Rattle.c_names.specs.Packed.{packed, refusal}
+use Rattle.c_names.specs.Packed.{packed, refusalAsNumber}
 use Rattle.c_names.proofs.pack.Examples.{worked}
 use Rattle.position.specs.declared.Position.{Position}
 use Rattle.places.specs.Told.{told}
@@ -10,9 +10,9 @@ use Rattle.places.specs.declared.coordinates.Placed.the-variants.{At, Refused}
 use Rattle.c_names.specs.PlaceNumbers.{placedAsNumber}
 
 pub at-number : (p : Position) → packed p ≡ placedAsNumber (At p)
-unfolding refusal told placedAsNumber
+unfolding refusalAsNumber told placedAsNumber
 at-number p = omega arith
 
-pub refused-number : (n : ℕ) → refusal n ≡ placedAsNumber (Refused n)
+pub refused-number : (n : ℕ) → refusalAsNumber n ≡ placedAsNumber (Refused n)
 unfolding told placedAsNumber
 refused-number n = rw (worked .no-place) (omega arith)

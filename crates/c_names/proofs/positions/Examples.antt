@@ -4,7 +4,7 @@ use Rattle.places.specs.declared.coordinates.Placed.the-variants.{Refused}
 use Rattle.places.specs.declared.coordinates.Coordinate.the-variants as coordinate
 use Rattle.position.specs.Place.{none, lineNumber, columnNumber}
 use Rattle.places.specs.Told.{told}
-use Rattle.c_names.specs.Packed.{packed, refusal}
+use Rattle.c_names.specs.Packed.{packed, refusalAsNumber}
 use Rattle.c_names.specs.PlaceNumbers.{placedAsNumber, coordinateAsNumber}
 
 pub record Worked : Type 0 where
@@ -13,5 +13,5 @@ pub record Worked : Type 0 where
   pub no-column : coordinateAsNumber coordinate.None ≡ 4294967296
 
 pub worked : Worked
-unfolding none lineNumber columnNumber packed refusal told placedAsNumber coordinateAsNumber
+unfolding none lineNumber columnNumber packed refusalAsNumber told placedAsNumber coordinateAsNumber
 worked = record { no-sum = refl; a-column = refl; no-column = refl }

@@ -9,7 +9,7 @@ use Rattle.token_ends.specs.Ends.{recordTokenOf}
 use Rattle.token_ends.specs.Told.{told}
 use Rattle.token_ends.specs.declared.Recorded.{Recorded}
 use Rattle.token_ends.specs.declared.TokenEnds.{TokenEnds}
-use Rattle.c_names.specs.Rows.{placeRow, pairRow, placesRow, listed, ends, recordRow}
+use Rattle.c_names.specs.Rows.{placeRow, pairRow, placesRow, endNumbers, endsGiven, recordRow}
 
 pub place-long : (l c : ℕ) → length (placeRow l c) ≡ 8
 unfolding placeRow
@@ -25,6 +25,6 @@ record-long token l c e = refl
 
 -- the row of what the calls tell
 module _ (token l c m d n k : ℕ) {p q o : Position} {s : Recorded} {r : List ℕ} where
-  pub record-is : p ≡ given l c → q ≡ given m d → o ≡ given n k → s ≡ recordTokenOf (record { last = q; previous = o }) token p → r ≡ listed (told s) → r ≡ recordRow token l c (ends m d n k)
+  pub record-is : p ≡ given l c → q ≡ given m d → o ≡ given n k → s ≡ recordTokenOf (record { last = q; previous = o }) token p → r ≡ endNumbers (told s) → r ≡ recordRow token l c (endsGiven m d n k)
   unfolding recordRow
   record-is a b e f g = rw (g, f, e, b, a)

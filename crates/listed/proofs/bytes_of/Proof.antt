@@ -18,8 +18,10 @@ pub bytes-of-spec : {M : Type 1} → statement M
 bytes-of-spec =
     tie.close
     (tie.spec
+    (λ c. search needs)
     (λ c κs. search needs)
     returns
+    (λ c. search needs)
     (λ c κs. search needs)
     returns-2
     (λ c κs. search needs)

@@ -2,13 +2,13 @@
 use borrow.Author.Needs.{needs}
 use Rattle.basis.specs.Words.{word}
 use Rattle.listed.specs.Texts.{puts}
-use Rattle.listed.specs.Listing.{endingOf}
+use Rattle.listed.specs.Listing.{endingLine}
 use Rattle.listed.proofs.Puts.{and-put}
 use Rattle.listed.proofs.put_ending.Statement.{statement}
 use Rattle.listed.proofs.put_ending.Tie as tie
 
 returns : tie.Need-returns
-unfolding word puts endingOf
+unfolding word puts endingLine
 returns c =
     let line = c .before .before in
     let place = line .before .before .before .before in
@@ -16,7 +16,7 @@ returns c =
     rw (end .before .before .before .before .ending .given .1) (and-put (and-put (end .put-word .ensures) _ (place .put-place .ensures)) _ (line .put-byte .ensures))
 
 returns-2 : tie.Need-returns-2
-unfolding word puts endingOf
+unfolding word puts endingLine
 returns-2 c =
     let line = c .before .before in
     let place = line .before .before .before .before in

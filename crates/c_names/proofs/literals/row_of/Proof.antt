@@ -3,19 +3,19 @@ use native.Mathlib.Omega.{arith}
 use borrow.Author.Needs.{needs}
 use Rattle.literal.specs.Told.{told}
 use Rattle.c_names.proofs.pack.Examples.{worked}
-use Rattle.c_names.specs.LiteralRow.{rowOf}
+use Rattle.c_names.specs.LiteralRow.{literalRow}
 use Rattle.c_names.proofs.literals.row_of.Statement.{statement}
 use Rattle.c_names.proofs.literals.row_of.Tie as tie
 
 returns : tie.Need-returns
-unfolding rowOf told
+unfolding literalRow told
 returns c =
     let call = c .before .before in
     let known = call .before .before .before .before in
     (rw (known .s .given .1, call .before .pack .ensures, call .pack2 .ensures, worked .no-place), omega arith)
 
 returns-2 : tie.Need-returns-2
-unfolding rowOf told
+unfolding literalRow told
 returns-2 c =
     let call = c .before .before in
     let known = call .before .before .before .before .before in

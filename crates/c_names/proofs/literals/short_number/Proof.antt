@@ -2,7 +2,7 @@
 use mathlib.Core.Path.{ap, _∙_}
 use borrow.Author.Needs.{needs}
 use Rattle.fault.specs.declared.Fault.{Fault}
-use Rattle.c_names.specs.Short.{shortNumber}
+use Rattle.c_names.specs.Short.{shortRowNumber}
 use Rattle.c_names.proofs.literals.Rows.{fault-number}
 use Rattle.c_names.proofs.literals.short_number.Statement.{statement}
 use Rattle.c_names.proofs.literals.short_number.Tie as tie
@@ -14,4 +14,4 @@ short-number-spec =
     (λ c κs. search needs)
     (λ c. search needs)
     (λ c κs. search needs)
-    (λ c. c .short-number .ensures ∙ ap shortNumber (ap (λ (f : Fault). f .number) (c .before .before .fault .ensures) ∙ fault-number _)))
+    (λ c. c .short-number .ensures ∙ ap shortRowNumber (ap (λ (f : Fault). f .number) (c .before .before .fault .ensures) ∙ fault-number _)))

@@ -1,11 +1,11 @@
 -- Each number is what its call answers.
 use borrow.Author.Needs.{needs}
-use Rattle.c_names.specs.OperatorRow.{rowOf}
+use Rattle.c_names.specs.OperatorRow.{operatorRow}
 use Rattle.c_names.proofs.operations.row_of.Statement.{statement}
 use Rattle.c_names.proofs.operations.row_of.Tie as tie
 
 returns : tie.Need-returns
-unfolding rowOf
+unfolding operatorRow
 returns c =
     let literal = c .before .before in
     let assigns = literal .before .before in

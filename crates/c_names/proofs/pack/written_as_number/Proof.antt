@@ -1,11 +1,11 @@
 -- Each arm is the definition at its case.
 use borrow.Author.Needs.{needs}
-use Rattle.c_names.specs.Packed.{refusal, writtenAsNumber}
+use Rattle.c_names.specs.Packed.{refusalAsNumber, writtenAsNumber}
 use Rattle.c_names.proofs.pack.written_as_number.Statement.{statement}
 use Rattle.c_names.proofs.pack.written_as_number.Tie as tie
 
 pub written-as-number-spec : {M : Type 1} → statement M
-unfolding refusal writtenAsNumber
+unfolding refusalAsNumber writtenAsNumber
 written-as-number-spec = tie.close
     (tie.spec
     (λ c. search needs)

@@ -1,13 +1,13 @@
 -- Each arm is the number of its case.
 use mathlib.Core.Path.{_∙_}
 use borrow.Author.Needs.{needs}
-use Rattle.c_names.specs.Packed.{refusal}
+use Rattle.c_names.specs.Packed.{refusalAsNumber}
 use Rattle.c_names.proofs.positions.Cases.{at-number, refused-number}
 use Rattle.c_names.proofs.positions.placed_as_number.Statement.{statement}
 use Rattle.c_names.proofs.positions.placed_as_number.Tie as tie
 
 returns-2 : tie.Need-returns-2
-unfolding refusal
+unfolding refusalAsNumber
 returns-2 c = rw (c .before .a2 .given .1) (refused-number _)
 
 pub placed-as-number-spec : {M : Type 1} → statement M

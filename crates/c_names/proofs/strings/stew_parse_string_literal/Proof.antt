@@ -1,28 +1,28 @@
 -- Too short a memory for the row leaves both; else the scan is answered by its row.
 use borrow.Author.Needs.{needs}
 use Rattle.c_names.proofs.literals.Rows.{too-short, in-full}
-use Rattle.string.specs.Entry.{traceOf, scanOf}
-use Rattle.c_names.specs.StringScans.{parsing, parsed}
+use Rattle.string.specs.Entry.{stringTrace, scanOf}
+use Rattle.c_names.specs.StringScans.{stringParsing, stringParsed}
 use Rattle.c_names.proofs.strings.stew_parse_string_literal.Statement.{statement}
 use Rattle.c_names.proofs.strings.stew_parse_string_literal.Tie as tie
 
 returns : tie.Need-returns
-unfolding parsing parsed
+unfolding stringParsing stringParsed
 returns c =
     let scan = c .before .before in
     let test = scan .before .before in
     let place = test .before in
-    rw (← place .given .ensures) (too-short (scanOf _ _ _ _ _ _) _ (test .if1 .taken) {e = scanOf _ _ _ _ _ _} (scan .parse-string-literal .ensures .0) (c .short-number .ensures) (traceOf _ _ _ _) _)
+    rw (← place .given .ensures) (too-short (scanOf _ _ _ _ _ _) _ (test .if1 .taken) {e = scanOf _ _ _ _ _ _} (scan .parse-string-literal .ensures .0) (c .short-number .ensures) (stringTrace _ _ _ _) _)
 
 returns-2 : tie.Need-returns-2
-unfolding parsing parsed
+unfolding stringParsing stringParsed
 returns-2 c =
     let row = c .before .before in
     let scan = row .before .before .before .before in
     let test = scan .before .before in
     let place = test .before in
     rw (← place .given .ensures)
-    (in-full (scanOf _ _ _ _ _ _) _ (test .if1 .left) _ (traceOf _ _ _ _) (scan .parse-string-literal2 .ensures .0) (scan .parse-string-literal2 .ensures .1) (row .answer .ensures .0) (row .answer .ensures .1))
+    (in-full (scanOf _ _ _ _ _ _) _ (test .if1 .left) _ (stringTrace _ _ _ _) (scan .parse-string-literal2 .ensures .0) (scan .parse-string-literal2 .ensures .1) (row .answer .ensures .0) (row .answer .ensures .1))
 
 pub stew-parse-string-literal-spec : {M : Type 1} → statement M
 stew-parse-string-literal-spec =

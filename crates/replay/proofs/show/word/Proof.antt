@@ -8,7 +8,7 @@ abbrev Inv-loop : tie.InvT-loop
 Inv-loop n words at₀ at = Unit {0}
 
 abbrev μ-loop : tie.MeasureT-loop
-μ-loop n words at₀ at = 338 - at
+μ-loop n words at₀ at = 325 - at
 
 pub word-spec : {M : Type 1} → statement M
 word-spec =

@@ -10,6 +10,6 @@ short-number-spec =
     (tie.spec
     (λ c κs. search needs)
     (λ c. search needs)
-    (λ c. no-fault _ (c .before .refuses .ensures) (c .if1 .taken))
+    (λ c. no-fault _ (c .before .text .ensures) (c .if1 .taken))
     (λ c. search needs)
-    (λ c. own-fault _ (c .before .refuses .ensures) (c .if1 .left)))
+    (λ c. own-fault _ (c .before .text .ensures) (c .if1 .left)))
