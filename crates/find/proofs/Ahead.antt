@@ -44,8 +44,8 @@ Further t at c = (at < c .at) × (c .at ≤ length t)
 
 abbrev pub Ahead : List ℕ → ℕ → Found → Type 0
 Ahead t at (White c) = Further t at c
-Ahead t at (Part k w c) = Further t at c
-Ahead t at (Literal o c) = Further t at c
+Ahead t at (Part c k w) = Further t at c
+Ahead t at (Literal c o) = Further t at c
 Ahead t at (Wrong f) = Own f
 Ahead t at End = Unit {0}
 

@@ -53,7 +53,7 @@ module _ (c : ℕ) (to : Cursor) where
 
 -- ---- words
 module _ {x : Identified} where
-  pub a-word : {w : Word} → x ≡ identified.Found w → wordOf x ≡ Part (w .kind) (w .token) (w .cursor)
+  pub a-word : {w : Word} → x ≡ identified.Found w → wordOf x ≡ Part (w .cursor) (w .kind) (w .token)
   unfolding wordOf
   a-word q = rw q
 
@@ -63,7 +63,7 @@ module _ {x : Identified} where
 
 -- ---- symbols
 module _ (at w : ℕ) (p : Position) {l : Longest} where
-  pub a-symbol : {t n : ℕ} → l ≡ Symbol t n → symbolOf at w p l ≡ Part Kind.symbol t (cursor (at + n) (advancedBy (n - 1) p))
+  pub a-symbol : {t n : ℕ} → l ≡ Symbol t n → symbolOf at w p l ≡ Part (cursor (at + n) (advancedBy (n - 1) p)) Kind.symbol t
   unfolding symbolOf
   a-symbol q = rw q
 
@@ -73,7 +73,7 @@ module _ (at w : ℕ) (p : Position) {l : Longest} where
 
 -- ---- comments
 module _ (t : List ℕ) (from : Cursor) where
-  pub block-closed : commentOf t from 1 .level ≡ 0 → blockComment t from ≡ Part Kind.comment Token.Comment (commentOf t from 1 .cursor)
+  pub block-closed : commentOf t from 1 .level ≡ 0 → blockComment t from ≡ Part (commentOf t from 1 .cursor) Kind.comment Token.Comment
   unfolding blockComment
   block-closed q = rw (eq-eqb _ 0 q)
 
@@ -226,7 +226,7 @@ module _ (t book : List ℕ) (s : Cursor) {c w : ℕ} (e : lookAt t (s .at) ≡ 
   finds-word y = rw (e, word-plain c y, y)
 
   module _ (m : beginsWord c ≡ false) where
-    pub finds-digit : isNumericDigit c ≡ true → findOf isWhite t book s ≡ Part Kind.number Token.IntegerConstant (stretchEnd Stretch.Word t (cursor (s .at + w) p))
+    pub finds-digit : isNumericDigit c ≡ true → findOf isWhite t book s ≡ Part (stretchEnd Stretch.Word t (cursor (s .at + w) p)) Kind.number Token.IntegerConstant
     unfolding findOf beginsOf numberRun
     finds-digit y = rw (e, digit-plain c y, m, y)
 

@@ -39,8 +39,8 @@ use Rattle.find.specs.declared.Found.the-variants.{White, Part, Literal,
 module _ (white : ℕ → Bool) (t book : List ℕ) where
   abbrev pub Found-small : Found → Type 0
   Found-small (White c) = Small (c .place)
-  Found-small (Part k w c) = (k ≤ 11) × Small (c .place)
-  Found-small (Literal o c) = (o .kind ≤ 11) × Small (c .place)
+  Found-small (Part c k w) = (k ≤ 11) × Small (c .place)
+  Found-small (Literal c o) = (o .kind ≤ 11) × Small (c .place)
   Found-small (Wrong f) = Tells (length t) f
   Found-small End = Unit {0}
 

@@ -53,25 +53,25 @@ whiteOf c to = White (pick (eqb c lf) (cursor (to .at) (lined (to .place))) to)
 
 -- a name, a keyword, a reserved word, the symbol `_`; or 8
 unfoldable pub wordOf : Identified → Found
-wordOf (identified.Found w) = Part (w .kind) (w .token) (w .cursor)
+wordOf (identified.Found w) = Part (w .cursor) (w .kind) (w .token)
 wordOf (identified.Refused f c) = Wrong f
 
 -- a number: the longest run of ASCII letters, digits and `_`
 unfoldable pub numberRun : Text → Cursor → Found
-numberRun t to = Part Kind.number Token.IntegerConstant (stretchEnd Stretch.Word t to)
+numberRun t to = Part (stretchEnd Stretch.Word t to) Kind.number Token.IntegerConstant
 
 -- the longest listed symbol, whose first character is at p; or 5, about a character so many bytes wide
 unfoldable pub symbolOf : Offset → ℕ → Position → Longest → Found
-symbolOf at w p (Symbol token n) = Part Kind.symbol token (cursor (at + n) (advancedBy (n - 1) p))
+symbolOf at w p (Symbol token n) = Part (cursor (at + n) (advancedBy (n - 1) p)) Kind.symbol token
 symbolOf at w p Nothing = Wrong (unexpectedInput p (part at w))
 
 -- `//` to before LF, from behind the second character
 unfoldable pub lineComment : Text → Cursor → Found
-lineComment t c = Part Kind.comment Token.Comment (stretchEnd Stretch.Line t c)
+lineComment t c = Part (stretchEnd Stretch.Line t c) Kind.comment Token.Comment
 
 -- `/*` to its end, from behind the second character; 11 at the cursor where a level is still open there
 unfoldable pub blockComment : Text → Cursor → Found
-blockComment t c = let r = commentOf t c 1 in pick (eqb (r .level) 0) (Part Kind.comment Token.Comment (r .cursor)) (Wrong (stillOpen (r .cursor .place)))
+blockComment t c = let r = commentOf t c 1 in pick (eqb (r .level) 0) (Part (r .cursor) Kind.comment Token.Comment) (Wrong (stillOpen (r .cursor .place)))
 
 -- the code point of a character found; no code point at the end
 abbrev pub codeOf : Look → ℕ
@@ -98,7 +98,7 @@ signAt t at c =
 
 -- what begins at a sign, whose first character is so many bytes wide
 abbrev pub onSign : Text → Offset → Position → ℕ → Sign → Found
-onSign t at p w (sign.Literal o) = Literal o (cursor (at + w) p)
+onSign t at p w (sign.Literal o) = Literal (cursor (at + w) p) o
 onSign t at p w sign.Line = lineComment t (cursor (at + 2) (advanced p))
 onSign t at p w sign.Block = blockComment t (cursor (at + 2) (advanced p))
 onSign t at p w sign.Symbol = symbolOf at w p (longestSymbolOf t at)

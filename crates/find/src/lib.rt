@@ -62,13 +62,14 @@ impl Opener {
     };
 }
 
+// The cursor comes first in each, at one offset: the compiler then keeps it in registers.
 pub enum Found {
     // White space, up to a cursor.
     White(Cursor),
-    // A token that is a part of the script: its kind, the Rust's token, and the cursor behind it.
-    Part(u8, u8, Cursor),
-    // A literal: what opens it, and the cursor behind that, whose place is the literal's start.
-    Literal(Opener, Cursor),
+    // A token that is a part of the script: the cursor behind it, its kind, and the Rust's token.
+    Part(Cursor, u8, u8),
+    // A literal: the cursor behind what opens it, whose place is the literal's start, and what opens it.
+    Literal(Cursor, Opener),
     // Nothing that a script may have.
     Wrong(Fault),
     // The script's end.
@@ -97,12 +98,12 @@ fn symbol(text: &[u8], at: usize, place: Position, width: usize) -> Found
     };
     let last = place.advanced_by(n - 1);
     Found::Part(
-        kinds::SYMBOL,
-        token,
         Cursor {
             at: at + n,
             place: last,
         },
+        kinds::SYMBOL,
+        token,
     )
 }
 
@@ -114,7 +115,7 @@ fn block(text: &[u8], from: Cursor) -> Found
     let comment = comment::scan::scan(text, from, 1);
     let end = comment.cursor;
     if comment.level == 0 {
-        return Found::Part(kinds::COMMENT, tokens::COMMENT, end);
+        return Found::Part(end, kinds::COMMENT, tokens::COMMENT);
     }
     Found::Wrong(Fault::at(Fault::STILL_OPEN, end.place))
 }
@@ -183,15 +184,13 @@ fn mark(text: &[u8], at: usize, place: Position, c: u32, width: usize) -> Found
     let sign = sign_at(text, at, c);
     match sign {
         Sign::Literal(opener) => Found::Literal(
-            opener,
             Cursor {
                 at: at + width,
                 place,
             },
+            opener,
         ),
         Sign::Line => Found::Part(
-            kinds::COMMENT,
-            tokens::COMMENT,
             chars::stretch::end_of(
                 Stretch::Line,
                 text,
@@ -200,6 +199,8 @@ fn mark(text: &[u8], at: usize, place: Position, c: u32, width: usize) -> Found
                     place: place.advanced(),
                 },
             ),
+            kinds::COMMENT,
+            tokens::COMMENT,
         ),
         Sign::Block => block(
             text,
@@ -222,7 +223,7 @@ fn word(book: &[u8], text: &[u8], start: Cursor) -> Found
         return Found::Wrong(identified.fault());
     };
     let end = word.cursor;
-    Found::Part(word.kind, word.token, end)
+    Found::Part(end, word.kind, word.token)
 }
 
 // A letter or `_`. It is one test, so that `word` is called from one place and drawn in as well.
@@ -292,9 +293,9 @@ pub fn find(book: &[u8], text: &[u8], from: Cursor) -> Found
     }
     if classes::is_numeric_digit(c) {
         return Found::Part(
+            chars::stretch::end_of(Stretch::Word, text, next),
             kinds::NUMBER,
             tokens::INTEGER_CONSTANT,
-            chars::stretch::end_of(Stretch::Word, text, next),
         );
     }
     if white::is_white(c) {

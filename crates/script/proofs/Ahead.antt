@@ -143,8 +143,8 @@ module _ (rules : Rules) (t book : List ℕ) (s : State) (fine : Fine s) (small 
   found-ahead : (x : Found) → Finds.Ahead t (s .cursor .at) x → Ahead t s (onFound rules t s x)
   unfolding movedTo endStep
   found-ahead (found.White c) (a, b) = (a, b, passed c a b, tt)
-  found-ahead (found.Part k w c) (a, b) = (rw (behind-cursor w c s) a, rw (behind-cursor w c s) b, tokened w c a b, (omega arith, rw (behind-cursor w c s) (omega arith)))
-  found-ahead (found.Literal o c) (a, b) = literal-ahead o c (omega arith) b
+  found-ahead (found.Part c k w) (a, b) = (rw (behind-cursor w c s) a, rw (behind-cursor w c s) b, tokened w c a b, (omega arith, rw (behind-cursor w c s) (omega arith)))
+  found-ahead (found.Literal c o) (a, b) = literal-ahead o c (omega arith) b
   found-ahead (found.Wrong f) u = tt
   found-ahead found.End u = pick-cases Idle (eqb (s .level) 0) _ _ (λ y. tt) (λ n. tt)
 

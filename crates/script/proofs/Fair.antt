@@ -94,8 +94,8 @@ module _ (rules : Rules) (t book : List ℕ) where
   found-fair : (s : State) (x : Found) → Finds.Ahead t (s .cursor .at) x → Fair-step (onFound rules t s x)
   unfolding endStep
   found-fair s (found.White c) h = tt
-  found-fair s (found.Part k w c) h = tt
-  found-fair s (found.Literal o c) h = literal-fair o c s
+  found-fair s (found.Part c k w) h = tt
+  found-fair s (found.Literal c o) h = literal-fair o c s
   found-fair s (found.Wrong f) h = h
   found-fair s found.End h = pick-cases Fair (eqb (s .level) 0) _ _ (λ y. tt) (λ n. eleven 11 (omega arith) (stillOpen (s .cursor .place)) refl)
 

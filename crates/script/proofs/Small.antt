@@ -89,8 +89,8 @@ module _ (rules : Rules) (t book : List ℕ) where
     found-small : (x : Found) → Finds.Ahead t (s .cursor .at) x → Found-small (rules .white) t book x → Step-small (onFound rules t s x)
     unfolding endStep movedTo
     found-small (found.White c) a k = (tt, k, a .1)
-    found-small (found.Part k w c) a q = (record { kind = q .0; place = advanced-small h; starts = within; ends = a .1 }, rw (behind-cursor w c s) (q .1), rw (behind-cursor w c s) (a .1))
-    found-small (found.Literal o c) a q = literal-small o (q .0) c (q .1) (a .1) s within
+    found-small (found.Part c k w) a q = (record { kind = q .0; place = advanced-small h; starts = within; ends = a .1 }, rw (behind-cursor w c s) (q .1), rw (behind-cursor w c s) (a .1))
+    found-small (found.Literal c o) a q = literal-small o (q .0) c (q .1) (a .1) s within
     found-small (found.Wrong f) a k = k
     found-small found.End a k = pick-cases (Readable (length t)) (eqb (s .level) 0) _ _ (λ y. h) (λ n. fault-tells (length t) 11 (omega arith) h)
 

@@ -95,8 +95,8 @@ partStep k w c s = on (token (Reading.token k (cursor (s .cursor .at) (advanced 
 -- what comes of what begins here
 abbrev pub onFound : Rules → Text → State → Found → Step
 onFound rules t s (found.White c) = on nothing (movedTo c s)
-onFound rules t s (found.Part k w c) = partStep k w c s
-onFound rules t s (found.Literal o from) = literalStep rules t o from s
+onFound rules t s (found.Part c k w) = partStep k w c s
+onFound rules t s (found.Literal from o) = literalStep rules t o from s
 onFound rules t s (found.Wrong f) = last (halts f)
 onFound rules t s found.End = endStep s
 

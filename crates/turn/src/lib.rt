@@ -319,7 +319,9 @@ pub fn turn(
     ensures { λ r. ⌜ Standing cursor level due (λ s. let here = skipped document01 (now (text .entry)) s in Turns (room .bounds) (room .listed) (room .used) here (stepOf document01 (now (text .entry)) (now (book .entry)) here) r (now (literals .entry)) (now (literals .exit))) ⌝ }
 {
     if due {
-        return literal(text, Opener::TEXT, cursor, level, room, literals);
+        // `literal` is handed a cursor in memory: a copy, so that the run's own stays in registers.
+        let from = cursor;
+        return literal(text, Opener::TEXT, from, level, room, literals);
     }
     let here = find::skip(text, cursor);
     let found = find::find(book, text, here);
@@ -331,8 +333,8 @@ pub fn turn(
             used: room.used,
             next: Next::On,
         },
-        Found::Part(kind, token, to) => part(kind, token, to, here, room),
-        Found::Literal(opener, from) => literal(text, opener, from, level, room, literals),
+        Found::Part(to, kind, token) => part(kind, token, to, here, room),
+        Found::Literal(from, opener) => literal(text, opener, from, level, room, literals),
         Found::Wrong(fault) => over(here, room.used, Ending::Stop(fault)),
         Found::End => end(here, level, room),
     }
