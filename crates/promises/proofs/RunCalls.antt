@@ -23,10 +23,9 @@ use Rattle.script.specs.Rules.{document01}
 use Rattle.run.specs.Run.{runReading, boundsOf, runOf, literalsOf, entriesOf, Called, called, holds}
 use Rattle.run.specs.declared.Ran.{Ran}
 use Rattle.run.specs.Bytes.{entryBytes}
-use Rattle.run.proofs.Runs.{five}
+use Rattle.run.proofs.Rows.{five, twenty}
 use Rattle.run.proofs.Short.{run-small}
 use Rattle.run.proofs.run.Reads as rattle
-use Rattle.run.proofs.bytes.Rows.{twenty}
 use Rattle.stew.specs.RunAnswer.{tellsOf, tells, C-called, c-called, c-holds, leaves, stewRunOf}
 use Rattle.stew.proofs.runs.stew_run.Reads as c
 use Rattle.promises.specs.Limits.{First-that-passes, before, unlimited}

@@ -29,49 +29,6 @@ use Rattle.turn.proofs.Makes.{Stands, left}
 use Rattle.run.specs.Run.{runReading, runOf, ranOf, Called, called, holds}
 use Rattle.run.proofs.Finishes.{Finished, finish, Running}
 
--- ---- five numbers for each entry
-pub five : (e : Entry) → length (numbersOf e) ≡ 5
-unfolding numbersOf
-five e = refl
-
--- five stores, one behind the other
-pub five-stored : (es : List ℕ) (i : ℕ) (e : Entry)
-    → set (set (set (set (set es i (e .kind)) (i + 1) (lineNumber (e .place))) (i + 2) (columnNumber (e .place))) (i + 3) (e .at)) (i + 4) (e .len) ≡ sets es i (numbersOf e)
-unfolding numbersOf
-five-stored es i e =
-    let two : i + 1 ≡ suc i = omega arith in
-    let three : i + 2 ≡ suc (suc i) = omega arith in
-    let four : i + 3 ≡ suc (suc (suc i)) = omega arith in
-    let five : i + 4 ≡ suc (suc (suc (suc i))) = omega arith in
-    rw (two, three, four, five)
-
--- and each of them is in the memory
-module _ (es : List ℕ) (i : ℕ) (h : i + 5 ≤ length es) (a b c d : ℕ) where
-  pub second-room : i + 1 < length (set es i a)
-  second-room = rw (length-set es i a) (omega arith)
-
-  pub third-room : i + 2 < length (set (set es i a) (i + 1) b)
-  third-room = rw (length-set (set es i a) (i + 1) b, length-set es i a) (omega arith)
-
-  pub fourth-room : i + 3 < length (set (set (set es i a) (i + 1) b) (i + 2) c)
-  fourth-room = rw (length-set (set (set es i a) (i + 1) b) (i + 2) c, length-set (set es i a) (i + 1) b, length-set es i a) (omega arith)
-
-  pub fifth-room : i + 4 < length (set (set (set (set es i a) (i + 1) b) (i + 2) c) (i + 3) d)
-  fifth-room =
-      rw (length-set (set (set (set es i a) (i + 1) b) (i + 2) c) (i + 3) d, length-set (set (set es i a) (i + 1) b) (i + 2) c, length-set (set es i a) (i + 1) b, length-set es i a) (omega arith)
-
--- the next entry stands behind it
-pub entry-next : (n : ℕ) (e : Entry) → 5 * n + length (numbersOf e) ≡ 5 * (n + 1)
-entry-next n e = rw (five e) (omega arith)
-
--- as many as the bounds allow have room
-pub entries-fit : (es : List Entry) (m : ℕ) → length es ≤ m / 5 → length (laidOut numbersOf es) ≤ m
-entries-fit es m h = rw (laid-length numbersOf 5 five es) (omega arith)
-
--- there is room for an entry that the bounds allow
-pub entry-room : (n m : ℕ) → n < m / 5 → 5 * n + 5 ≤ m
-entry-room n m h = omega arith
-
 -- ---- before the first turn
 zeros : (n i : ℕ) → _≡_ {A = ℕ} (getD (replicate n 0) i 0) 0
 zeros zero i = refl

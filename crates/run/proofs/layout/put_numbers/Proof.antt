@@ -1,8 +1,8 @@
 -- Five stores, one behind the other.
 use borrow.Author.Needs.{needs}
-use Rattle.run.proofs.Runs.{five-stored, second-room, third-room, fourth-room, fifth-room}
-use Rattle.run.proofs.store.Statement.{statement}
-use Rattle.run.proofs.store.Tie as tie
+use Rattle.run.proofs.Rows.{five-stored, second-room, third-room, fourth-room, fifth-room}
+use Rattle.run.proofs.layout.put_numbers.Statement.{statement}
+use Rattle.run.proofs.layout.put_numbers.Tie as tie
 
 second : tie.Need-slice-write-entries-2
 second c = let start = c .before .before .before .before in second-room (start .args .entries .now) _ (start .pre .2) _ 0 0 0
@@ -21,8 +21,8 @@ returns c =
     let line = c .before .before .before in
     rw (line .line-number .ensures, c .before .before .column-number .ensures) (five-stored _ _ (line .before .before .before .before .args .e))
 
-pub store-spec : {M : Type 1} → statement M
-store-spec =
+pub put-numbers-spec : {M : Type 1} → statement M
+put-numbers-spec =
     tie.close
     (tie.spec
     (λ c. search needs)

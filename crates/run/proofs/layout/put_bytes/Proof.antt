@@ -1,8 +1,8 @@
 -- The row of the entry's numbers goes to its part of the memory.
 use borrow.Author.Needs.{needs}
-use Rattle.run.proofs.bytes.Rows.{entry-stored, row-is}
-use Rattle.run.proofs.bytes.store.Statement.{statement}
-use Rattle.run.proofs.bytes.store.Tie as tie
+use Rattle.run.proofs.Rows.{entry-stored, row-is}
+use Rattle.run.proofs.layout.put_bytes.Statement.{statement}
+use Rattle.run.proofs.layout.put_bytes.Tie as tie
 
 returns : tie.Need-returns
 returns c =
@@ -12,8 +12,8 @@ returns c =
     rw (call .write-row .ensures .1)
     (entry-stored (start .args .entries .now) _ (start .args .e) (start .pre) _ (row-is (start .args .e) _ _ (column .before .line-number .ensures) (column .column-number .ensures)))
 
-pub store-spec : {M : Type 1} → statement M
-store-spec =
+pub put-bytes-spec : {M : Type 1} → statement M
+put-bytes-spec =
     tie.close
     (tie.spec
     (λ c. search needs)
