@@ -5,19 +5,19 @@ use mathlib.Core.Path.{_≡_, refl}
 use Rattle.basis.specs.Words.{word}
 use Rattle.book.specs.Order.{same}
 use Rattle.book.proofs.Examples.{book-computes, house, office, one}
-use Rattle.book_lookup.specs.Lookup.{firstHit, isA, isB, flagsAnswer, hitAnswer, reserved, reservedOf, eitherBook, holderOf, heldPart, heldPlace, foundPart, foundPlace}
+use Rattle.book_lookup.specs.Lookup.{firstHit, isA, isB, flagsAnswer, hitAnswer, lookedUp, reservedOf, eitherBook, holderOf, heldPart, heldPlace, foundPart, foundPlace}
 
 -- what the two books answer
-pub house-says : map (reservedOf house) (word "_1" ∷ word "goto" ∷ word "go" ∷ word "is" ∷ [] ∷ []) ≡ reserved true true false ∷ reserved true true true ∷ reserved false false false ∷ reserved false false false ∷ reserved false false false ∷ []
+pub house-says : map (reservedOf house) (word "_1" ∷ word "goto" ∷ word "go" ∷ word "is" ∷ [] ∷ []) ≡ lookedUp true true false ∷ lookedUp true true true ∷ lookedUp false false false ∷ lookedUp false false false ∷ lookedUp false false false ∷ []
 unfolding book-computes same firstHit isA isB flagsAnswer hitAnswer reservedOf
 house-says = refl
 
-pub office-says : map (reservedOf office) (word "goto" ∷ word "is" ∷ word "_1" ∷ []) ≡ reserved true false false ∷ reserved true false false ∷ reserved false false false ∷ []
+pub office-says : map (reservedOf office) (word "goto" ∷ word "is" ∷ word "_1" ∷ []) ≡ lookedUp true false false ∷ lookedUp true false false ∷ lookedUp false false false ∷ []
 unfolding book-computes same firstHit isA isB flagsAnswer hitAnswer reservedOf
 office-says = refl
 
 -- a bad book finds nothing, though the word stands in it
-pub bad-says : reservedOf (one 1 0 (word "ab")) (word "a") ≡ reserved false false false
+pub bad-says : reservedOf (one 1 0 (word "ab")) (word "a") ≡ lookedUp false false false
 unfolding book-computes same firstHit isA isB flagsAnswer hitAnswer reservedOf
 bad-says = refl
 

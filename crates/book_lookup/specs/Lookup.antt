@@ -36,16 +36,16 @@ unfoldable pub isB : ℕ → Bool
 isB flags = eqb (flags / 2 % 2) 1
 
 -- (found, a, a and b)
-abbrev pub reserved : Bool → Bool → Bool → Reserved
-reserved found a ab = record { found = found; a = a; ab = ab }
+abbrev pub lookedUp : Bool → Bool → Bool → Reserved
+lookedUp found a ab = record { found = found; a = a; ab = ab }
 
 -- the answer for a word that the book does not hold
 abbrev pub notFound : Reserved
-notFound = reserved false false false
+notFound = lookedUp false false false
 
 -- the answer of an entry's flags
 unfoldable pub flagsAnswer : ℕ → Reserved
-flagsAnswer flags = reserved true (isA flags) (both (isA flags) (isB flags))
+flagsAnswer flags = lookedUp true (isA flags) (both (isA flags) (isB flags))
 
 -- the answer of what was found
 unfoldable pub hitAnswer : Hit → Reserved

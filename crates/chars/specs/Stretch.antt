@@ -14,7 +14,7 @@ pub data Stretch (t : List ℕ) (of : ℕ → Type 0) (a : ℕ) : ℕ → ℕ �
   more : {k b c w : ℕ} → Stretch t of a k b → lookAt t b ≡ Char c w → of c → Stretch t of a (k + 1) (b + w)
 
 -- a character of the class, w bytes wide, is next and ends by an offset
-pub record Next (t : List ℕ) (of : ℕ → Type 0) (at stop w : ℕ) : Type 0 where
+pub record Next-char (t : List ℕ) (of : ℕ → Type 0) (at stop w : ℕ) : Type 0 where
   pub code : ℕ
   pub found : lookAt t at ≡ Char code w
   pub fits : at + w ≤ stop

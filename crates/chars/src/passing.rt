@@ -4,7 +4,7 @@ ghost use Prim.Native.Nat.{_+_, _≤_, _<_};
 ghost use lib.ListN.{length, getD};
 ghost use Rattle.utf8.specs.Table.{lookAt};
 ghost use Rattle.utf8.specs.declared.Look.the-variants.{End};
-ghost use Rattle.chars.specs.Stretch.{Stretch, Next, among, Low, High, Other};
+ghost use Rattle.chars.specs.Stretch.{Stretch, Next-char, among, Low, High, Other};
 
 // The offset behind what was passed, and how many characters that is.
 pub struct Passed {
@@ -47,7 +47,7 @@ fn last(len: usize, from: usize, most: usize) -> usize
 // The width of the character at an offset whose byte, x, is above 7F, if it ends by `stop`; else 0.
 fn width(text: &[u8], at: usize, x: u32, stop: usize) -> usize
     requires { ⌜ (at < length (now text)) × (x ≡ getD (now text) at 0) × (0x80 ≤ x) × (at ≤ stop) ⌝ }
-    ensures { λ r. ⌜ ((r ≡ 0 → ⊥) → Next (now (text .entry)) High at stop r) ⌝ }
+    ensures { λ r. ⌜ ((r ≡ 0 → ⊥) → Next-char (now (text .entry)) High at stop r) ⌝ }
     ensures { λ r. ⌜ (r ≡ 0 → stop ≡ length (now (text .entry)) → lookAt (now (text .entry)) at ≡ End) ⌝ }
 {
     let w = utf8::width(text, at, x);

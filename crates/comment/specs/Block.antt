@@ -18,8 +18,8 @@ use Rattle.comment.specs.declared.scan.Commented.{Commented}
 use Rattle.comment.specs.declared.scan.Commented.the-variants.{Done, Refused}
 
 -- the level that is open at a cursor
-abbrev pub comment : ℕ → Cursor → Comment
-comment n c = record { level = n; cursor = c }
+abbrev pub commentAt : ℕ → Cursor → Comment
+commentAt n c = record { level = n; cursor = c }
 
 -- where a scan stands between two turns: the level that is open, and the place
 pub record Inside : Type 0 where
@@ -31,7 +31,7 @@ inside n p = record { level = n; place = p }
 
 -- the answer where the scan is over
 abbrev pub commentEnded : Offset → Inside → Comment
-commentEnded at s = comment (s .level) (cursor at (s .place))
+commentEnded at s = commentAt (s .level) (cursor at (s .place))
 
 -- one turn. Returns of the whole scan, from 1:1:
 --

@@ -29,7 +29,7 @@ use Rattle.fault.specs.Faults.{part, unexpectedInput, stillOpen}
 use Rattle.token.specs.Tokens as Token
 use Rattle.entry.specs.Kinds as Kind
 use Rattle.identifier.specs.Identifiers.{identifyOf}
-use Rattle.identifier.specs.Told.{faultOf}
+use Rattle.identifier.specs.Told.{identifiedFault}
 use Rattle.identifier.specs.declared.scan.Word.{Word}
 use Rattle.identifier.specs.declared.scan.Identified.{Identified}
 use Rattle.identifier.specs.declared.scan.Identified.the-variants as identified
@@ -57,8 +57,8 @@ module _ {x : Identified} where
   unfolding wordOf
   a-word q = rw q
 
-  pub no-word : {f : Fault} {e : Cursor} → x ≡ identified.Refused f e → {g : Fault} → g ≡ faultOf x → wordOf x ≡ Wrong g
-  unfolding wordOf faultOf
+  pub no-word : {f : Fault} {e : Cursor} → x ≡ identified.Refused f e → {g : Fault} → g ≡ identifiedFault x → wordOf x ≡ Wrong g
+  unfolding wordOf identifiedFault
   no-word q h = rw (h, q)
 
 -- ---- symbols

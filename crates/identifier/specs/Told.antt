@@ -24,6 +24,6 @@ told (Found w) = record { number = 0; place = none; about = part 0 0; kind = w .
 told (Refused f c) = record { number = f .number; place = f .place; about = f .part; kind = 0; token = 0; cursor = c }
 
 -- the fault that it tells; of a word number 0, at no place
-unfoldable pub faultOf : Identified → Fault
-faultOf (Found w) = fault 0 none
-faultOf (Refused f c) = f
+unfoldable pub identifiedFault : Identified → Fault
+identifiedFault (Found w) = fault 0 none
+identifiedFault (Refused f c) = f

@@ -3,7 +3,7 @@ ghost use mathlib.Core.Path.{_≡_};
 ghost use mathlib.Core.Bool.{true};
 ghost use Rattle.book.specs.Book.{good};
 ghost use Rattle.identifier.specs.Identifiers.{listedKind, classIn, classOf, identifyOf};
-ghost use Rattle.identifier.specs.Told.{faultOf};
+ghost use Rattle.identifier.specs.Told.{identifiedFault};
 use crate::valid;
 use chars::cursor::Cursor;
 use chars::cursor::Taken;
@@ -29,7 +29,7 @@ pub enum Identified {
 impl Identified {
     // The fault of a refusal; of a word number 0, at no place. It is for a `let .. else`, which cannot open the other case.
     pub fn fault(self) -> Fault
-        ensures { λ r. ⌜ r ≡ faultOf self ⌝ }
+        ensures { λ r. ⌜ r ≡ identifiedFault self ⌝ }
     {
         match self {
             Identified::Found(_) => Fault::NONE,

@@ -13,11 +13,11 @@ use Rattle.lent.specs.Written.{writtenOf, leftOf}
 use Rattle.lent.specs.declared.Written.{Written}
 use Rattle.lent.specs.declared.Written.the-variants.{Done, Refused}
 use Rattle.lent.proofs.Writes.{refused, untouched, done, written}
-use Rattle.listed.specs.Texts.{Writing, text, put, puts}
+use Rattle.listed.specs.Texts.{Writing, writing, put, puts}
 
 -- what a copy tells
 module _ (l : List ℕ) (i : ℕ) (xs : List ℕ) {r : ℕ} {l′ : List ℕ} where
-  pub put-told : r ≡ after l i xs → l′ ≡ stored l i xs → text l′ r ≡ put (text l i) xs
+  pub put-told : r ≡ after l i xs → l′ ≡ stored l i xs → writing l′ r ≡ put (writing l i) xs
   unfolding put
   put-told e f = rw (e, f)
 

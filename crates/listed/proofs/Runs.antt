@@ -13,7 +13,7 @@ use Rattle.entry.specs.Entries.{numbersOf}
 use Rattle.reading.proofs.Fits.{cut-fits}
 use Rattle.run.specs.Run.{runReading, boundsOf, runOf, ranOf, literalsOf, entriesOf, Called, called, holds}
 use Rattle.run.specs.declared.Ran.{Ran}
-use Rattle.listed.specs.Texts.{Writing, text, put, puts}
+use Rattle.listed.specs.Texts.{Writing, writing, put, puts}
 use Rattle.listed.specs.Listing.{entriesLines, endingLine, leftLines, runLines, listingOf}
 use Rattle.listed.proofs.Puts.{puts-append, and-puts}
 
@@ -43,10 +43,10 @@ module _ (t ls es : List ℕ) where
 
 -- the two ways out of a listing
 module _ (t l : List ℕ) {u : Writing} where
-  pub lists-long : 32768 < length t → u ≡ put (text l 0) (word "stop 2 1\n") → u ≡ puts (text l 0) (listingOf t)
+  pub lists-long : 32768 < length t → u ≡ put (writing l 0) (word "stop 2 1\n") → u ≡ puts (writing l 0) (listingOf t)
   unfolding puts listingOf
   lists-long h e = rw (lt-ltb 32768 (length t) h) e
 
-  pub lists-short : length t ≤ 32768 → u ≡ puts (text l 0) (runLines t (replicate 32768 0) (replicate 9000 0)) → u ≡ puts (text l 0) (listingOf t)
+  pub lists-short : length t ≤ 32768 → u ≡ puts (writing l 0) (runLines t (replicate 32768 0) (replicate 9000 0)) → u ≡ puts (writing l 0) (listingOf t)
   unfolding listingOf
   lists-short h e = rw (le-ltb 32768 (length t) h) e

@@ -8,10 +8,10 @@ use lib.ListN.{length, length-append}
 use lib.Seq.{sets, length-sets}
 use Rattle.basis.specs.Store.{over}
 use Rattle.basis.proofs.Stores.{sets-append, sets-front, stored-whole, after-whole}
-use Rattle.listed.specs.Texts.{text, put, puts, joined}
+use Rattle.listed.specs.Texts.{writing, put, puts, joined}
 
 -- pieces that have room from an index on
-from-index : (l : List ℕ) (i : ℕ) (xss : List (List ℕ)) → i + length (joined xss) ≤ length l → puts (text l i) xss ≡ text (sets l i (joined xss)) (i + length (joined xss))
+from-index : (l : List ℕ) (i : ℕ) (xss : List (List ℕ)) → i + length (joined xss) ≤ length l → puts (writing l i) xss ≡ writing (sets l i (joined xss)) (i + length (joined xss))
 unfolding put puts joined
 from-index l i [] h = rw add-zero
 from-index l i (xs ∷ xss) h =
@@ -20,5 +20,5 @@ from-index l i (xs ∷ xss) h =
     rw (stored-whole l i xs whole, after-whole l i xs whole, sets-append l i xs (joined xss), long, ← add-assoc i (length xs) (length (joined xss)))
     (from-index (sets l i xs) (i + length xs) xss (rw (length-sets l i xs) (omega arith)))
 
-pub whole-text : (l : List ℕ) (xss : List (List ℕ)) → length (joined xss) ≤ length l → puts (text l 0) xss ≡ text (over (joined xss) l) (length (joined xss))
+pub whole-text : (l : List ℕ) (xss : List (List ℕ)) → length (joined xss) ≤ length l → puts (writing l 0) xss ≡ writing (over (joined xss) l) (length (joined xss))
 whole-text l xss h = from-index l 0 xss (omega arith) ∙ rw (sets-front l (joined xss) h, zero-add)

@@ -8,12 +8,12 @@ pub record Writing : Type 0 where
   pub memory : List ℕ
   pub next : ℕ
 
-abbrev pub text : List ℕ → ℕ → Writing
-text l i = record { memory = l; next = i }
+abbrev pub writing : List ℕ → ℕ → Writing
+writing l i = record { memory = l; next = i }
 
 -- one piece more
 unfoldable pub put : Writing → List ℕ → Writing
-put t xs = text (stored (t .memory) (t .next) xs) (after (t .memory) (t .next) xs)
+put t xs = writing (stored (t .memory) (t .next) xs) (after (t .memory) (t .next) xs)
 
 -- some pieces more
 unfoldable pub puts : Writing → List (List ℕ) → Writing

@@ -6,7 +6,7 @@ ghost use mathlib.Core.Path.{_≡_};
 ghost use lib.ListN.{length, drop};
 ghost use Rattle.display.specs.Decimal.{decimal};
 ghost use Rattle.display.specs.Forms.{debugOf};
-ghost use Rattle.listed.specs.Texts.{text, put, puts};
+ghost use Rattle.listed.specs.Texts.{writing, put, puts};
 ghost use Rattle.listed.specs.Listing.{hexDigit, hexByte, hexOf, kindWord, tokenLine, partAt, tokenBytes, entryLine, entriesLines, endingLine, runLines, listingOf};
 use display::Shown;
 use entry::Entry;
@@ -18,14 +18,14 @@ use reading::Ending;
 // Who puts a piece into `out` is told the index that it goes to, and answers the index behind it: a piece that has no room is
 // left out.
 fn put_byte(b: u8, out: &mut [u8], at: usize) -> usize
-    ensures { λ r. ⌜ text (now (out .exit)) r ≡ put (text (now (out .entry)) at) (b ∷ []) ⌝ }
+    ensures { λ r. ⌜ writing (now (out .exit)) r ≡ put (writing (now (out .entry)) at) (b ∷ []) ⌝ }
 {
     let one = [b];
     lent::copy(&one, out, at)
 }
 
 fn put_word(word: &[u8], out: &mut [u8], at: usize) -> usize
-    ensures { λ r. ⌜ text (now (out .exit)) r ≡ put (text (now (out .entry)) at) (now (word .entry)) ⌝ }
+    ensures { λ r. ⌜ writing (now (out .exit)) r ≡ put (writing (now (out .entry)) at) (now (word .entry)) ⌝ }
 {
     lent::copy(word, out, at)
 }
@@ -41,7 +41,7 @@ fn digit(d: u8) -> u8
 }
 
 fn put_hex_byte(b: u8, out: &mut [u8], at: usize) -> usize
-    ensures { λ r. ⌜ text (now (out .exit)) r ≡ put (text (now (out .entry)) at) (hexByte b) ⌝ }
+    ensures { λ r. ⌜ writing (now (out .exit)) r ≡ put (writing (now (out .entry)) at) (hexByte b) ⌝ }
 {
     let two = [digit(b / 16), digit(b % 16)];
     lent::copy(&two, out, at)
@@ -49,7 +49,7 @@ fn put_hex_byte(b: u8, out: &mut [u8], at: usize) -> usize
 
 // In lowercase hex, `-` for none.
 fn put_hex(bytes: &[u8], out: &mut [u8], at: usize) -> usize
-    ensures { λ r. ⌜ text (now (out .exit)) r ≡ puts (text (now (out .entry)) at) (hexOf (now (bytes .entry))) ⌝ }
+    ensures { λ r. ⌜ writing (now (out .exit)) r ≡ puts (writing (now (out .entry)) at) (hexOf (now (bytes .entry))) ⌝ }
 {
     if bytes.len() == 0 {
         return put_byte(b'-', out, at);
@@ -64,7 +64,7 @@ fn put_hex(bytes: &[u8], out: &mut [u8], at: usize) -> usize
 }
 
 fn put_kind(kind: u32, out: &mut [u8], at: usize) -> usize
-    ensures { λ r. ⌜ text (now (out .exit)) r ≡ put (text (now (out .entry)) at) (kindWord kind) ⌝ }
+    ensures { λ r. ⌜ writing (now (out .exit)) r ≡ put (writing (now (out .entry)) at) (kindWord kind) ⌝ }
 {
     match kind {
         1 => put_word(b"name", out, at),
@@ -84,7 +84,7 @@ fn put_kind(kind: u32, out: &mut [u8], at: usize) -> usize
 
 // In the source's Debug form.
 fn put_place(place: Position, out: &mut [u8], at: usize) -> usize
-    ensures { λ r. ⌜ text (now (out .exit)) r ≡ put (text (now (out .entry)) at) (debugOf place) ⌝ }
+    ensures { λ r. ⌜ writing (now (out .exit)) r ≡ put (writing (now (out .entry)) at) (debugOf place) ⌝ }
 {
     if out.len() < at {
         return at;
@@ -97,7 +97,7 @@ fn put_place(place: Position, out: &mut [u8], at: usize) -> usize
 
 // In decimal.
 fn put_number(n: u8, out: &mut [u8], at: usize) -> usize
-    ensures { λ r. ⌜ text (now (out .exit)) r ≡ put (text (now (out .entry)) at) (decimal n) ⌝ }
+    ensures { λ r. ⌜ writing (now (out .exit)) r ≡ put (writing (now (out .entry)) at) (decimal n) ⌝ }
 {
     let last = 48 + n % 10;
     if n < 10 {
@@ -149,7 +149,7 @@ fn bytes_of<'a>(script: &'a [u8], literals: &'a [u8], kind: u32, at: u32, len: u
 }
 
 fn put_line(place: Position, kind: u32, bytes: &[u8], out: &mut [u8], at: usize) -> usize
-    ensures { λ r. ⌜ text (now (out .exit)) r ≡ puts (text (now (out .entry)) at) (tokenLine place kind (now (bytes .entry))) ⌝ }
+    ensures { λ r. ⌜ writing (now (out .exit)) r ≡ puts (writing (now (out .entry)) at) (tokenLine place kind (now (bytes .entry))) ⌝ }
 {
     let mut n = put_place(place, &mut *out, at);
     n = put_byte(b' ', &mut *out, n);
@@ -169,7 +169,7 @@ fn put_entry<'a>(
     at: usize,
 ) -> usize
     requires { ⌜ i + 5 ≤ length (now entries) ⌝ }
-    ensures { λ r. ⌜ text (now (out .exit)) r ≡ puts (text (now (out .entry)) at) (entryLine (now (script .entry)) (now (literals .entry)) (drop i (now (entries .entry)))) ⌝ }
+    ensures { λ r. ⌜ writing (now (out .exit)) r ≡ puts (writing (now (out .entry)) at) (entryLine (now (script .entry)) (now (literals .entry)) (drop i (now (entries .entry)))) ⌝ }
 {
     let kind = entries[i];
     let place = Position::given(coordinate(entries[i + 1]), coordinate(entries[i + 2]));
@@ -185,7 +185,7 @@ fn put_entries<'a>(
     out: &mut [u8],
 ) -> usize
     requires { ⌜ 5 * listed ≤ length (now entries) ⌝ }
-    ensures { λ r. ⌜ text (now (out .exit)) r ≡ puts (text (now (out .entry)) 0) (entriesLines (now (script .entry)) (now (literals .entry)) listed (now (entries .entry))) ⌝ }
+    ensures { λ r. ⌜ writing (now (out .exit)) r ≡ puts (writing (now (out .entry)) 0) (entriesLines (now (script .entry)) (now (literals .entry)) listed (now (entries .entry))) ⌝ }
 {
     let mut at = 0;
     let mut n = 0;
@@ -197,7 +197,7 @@ fn put_entries<'a>(
 }
 
 fn put_ending(ending: Ending, out: &mut [u8], at: usize) -> usize
-    ensures { λ r. ⌜ text (now (out .exit)) r ≡ puts (text (now (out .entry)) at) (endingLine ending) ⌝ }
+    ensures { λ r. ⌜ writing (now (out .exit)) r ≡ puts (writing (now (out .entry)) at) (endingLine ending) ⌝ }
 {
     match ending {
         Ending::End(place) => {
@@ -217,7 +217,7 @@ fn put_ending(ending: Ending, out: &mut [u8], at: usize) -> usize
 
 // The lines of a run in memory that is lent to it.
 fn list_run(script: &[u8], literals: &mut [u8], entries: &mut [u32], out: &mut [u8]) -> usize
-    ensures { λ r. ⌜ text (now (out .exit)) r ≡ puts (text (now (out .entry)) 0) (runLines (now (script .entry)) (now (literals .entry)) (now (entries .entry))) ⌝ }
+    ensures { λ r. ⌜ writing (now (out .exit)) r ≡ puts (writing (now (out .entry)) 0) (runLines (now (script .entry)) (now (literals .entry)) (now (entries .entry))) ⌝ }
 {
     let book = [0u8; 2];
     let ran = run::run(script, &book, 0, &mut *literals, &mut *entries);
@@ -230,7 +230,7 @@ fn list_run(script: &[u8], literals: &mut [u8], entries: &mut [u32], out: &mut [
 // Puts the listing into what is lent, and answers where it ends. A piece that has no room is left out; 180,000 bytes have room
 // for all: an entry's line has at most 27 bytes beside its hex digits, and these are at most 131,072.
 pub fn list(script: &[u8], out: &mut [u8]) -> usize
-    ensures { λ r. ⌜ text (now (out .exit)) r ≡ puts (text (now (out .entry)) 0) (listingOf (now (script .entry))) ⌝ }
+    ensures { λ r. ⌜ writing (now (out .exit)) r ≡ puts (writing (now (out .entry)) 0) (listingOf (now (script .entry))) ⌝ }
 {
     if 32768 < script.len() {
         return put_word(b"stop 2 1\n", out, 0);

@@ -53,6 +53,6 @@ refusalNumber (Accepted e n) = 0
 refusalNumber (Refused f) = f .fault .number
 
 -- the fault that it tells; of an accepted scan number 0, at no place
-unfoldable pub faultOf : Scanned → Fault
-faultOf (Accepted e n) = fault 0 none
-faultOf (Refused f) = f .fault
+unfoldable pub scannedFault : Scanned → Fault
+scannedFault (Accepted e n) = fault 0 none
+scannedFault (Refused f) = f .fault

@@ -3,7 +3,7 @@ ghost use mathlib.Core.Bool.{false};
 ghost use mathlib.Core.Path.{_≡_};
 ghost use Prim.Native.Nat.{_+_, _≤_, _<_};
 ghost use Rattle.literal.specs.Trace.{passes};
-ghost use Rattle.literal.specs.Told.{faultOf};
+ghost use Rattle.literal.specs.Told.{scannedFault};
 ghost use Rattle.literal.specs.Answers.{asGiven, tooLong};
 ghost use Rattle.literal.specs.declared.Scanned.the-variants.{Refused};
 use chars::cursor::Cursor;
@@ -45,7 +45,7 @@ pub enum Scanned {
 impl Scanned {
     // The fault of a refusal; of an accepted scan number 0, at no place. It is for a `let .. else`, which cannot open the other case.
     pub fn fault(self) -> Fault
-        ensures { λ r. ⌜ r ≡ faultOf self ⌝ }
+        ensures { λ r. ⌜ r ≡ scannedFault self ⌝ }
     {
         match self {
             Scanned::Accepted(_, _) => Fault::NONE,

@@ -11,7 +11,7 @@ use Rattle.utf8.specs.Table.{lookAt}
 use Rattle.utf8.specs.declared.Look.the-variants.{Char}
 use Rattle.chars.specs.Cursors.{cursor}
 use Rattle.chars.specs.Scan.{on, moveAt, runAt}
-use Rattle.chars.specs.Stretch.{Next}
+use Rattle.chars.specs.Stretch.{Next-char}
 use Rattle.chars.specs.declared.cursor.Cursor.{Cursor}
 use Rattle.literal.specs.Trace.{added, tested}
 use Rattle.literal.specs.Cut.{cut}
@@ -36,7 +36,7 @@ Failing c = (c ≡ quote → ⊥) × (c ≡ hash → ⊥)
 -- what a quote is passed with, by what stands behind it: nothing before another quote, which begins the attempt anew; else the character that ends the attempt
 pub data Lost-at (t : List ℕ) (at : ℕ) : Lost → Type 0 where
   again : lookAt t at ≡ Char quote 1 → Lost-at t at (record { width = 1; columns = 1 })
-  ended : {w : ℕ} → Next t Failing at (length t) w → Lost-at t at (record { width = w + 1; columns = 2 })
+  ended : {w : ℕ} → Next-char t Failing at (length t) w → Lost-at t at (record { width = w + 1; columns = 2 })
 
 -- characters passed at once leave what a limit and a room make of the rest: from one stand to another, further on, with a body that has grown as much
 pub record BodyPasses (t : List ℕ) (limit room held : ℕ) (s r : Stand) : Type 0 where

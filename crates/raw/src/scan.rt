@@ -5,7 +5,7 @@ ghost use Prim.Native.Nat.{_≤_, _<_};
 ghost use lib.ListN.{length};
 ghost use Rattle.utf8.specs.Table.{lookAt};
 ghost use Rattle.utf8.specs.declared.Look.the-variants.{Char};
-ghost use Rattle.chars.specs.Stretch.{Next};
+ghost use Rattle.chars.specs.Stretch.{Next-char};
 ghost use Rattle.literal.specs.Cut.{cut};
 ghost use Rattle.literal.specs.declared.Scanned.the-variants as Scanned;
 ghost use Rattle.classes.specs.Marks.{quote};
@@ -102,7 +102,7 @@ fn pass_plain(text: &[u8], limit: usize, room: usize, s: Stand) -> Stand
 
 // The width of the character at an offset, if it ends an attempt to close; else 0.
 fn failing(text: &[u8], at: usize) -> usize
-    ensures { λ r. ⌜ ((r ≡ 0 → ⊥) → Next (now (text .entry)) Failing at (length (now (text .entry))) r) ⌝ }
+    ensures { λ r. ⌜ ((r ≡ 0 → ⊥) → Next-char (now (text .entry)) Failing at (length (now (text .entry))) r) ⌝ }
 {
     if text.len() <= at {
         return 0;

@@ -28,7 +28,7 @@ use Rattle.reading.specs.Reading.{Reading, finishes, halts, spoils, lists, read
 use Rattle.script.specs.Rules.{Rules}
 use Rattle.script.specs.declared.State.{State}
 use Rattle.script.specs.declared.Crossed.the-variants.{Plain, Piece, Token}
-use Rattle.script.specs.States.{movedTo, interpolated, count, counted, resumed, opened, closed, behind, behindOf, Fine}
+use Rattle.script.specs.States.{movedTo, interpolating, count, withBraces, resumed, opened, closed, behind, behindOf, Fine}
 use Rattle.script.specs.Steps.{Step, on, last, Note, nothing, token, literal, literalTrace, verdictOf, listedOf, onVerdict, onEnd, literalStep, endStep, onFound, stepOf}
 use Rattle.script.specs.declared.Verdict.{Verdict}
 use Rattle.script.specs.declared.Verdict.the-variants as verdict
@@ -95,7 +95,7 @@ module _ (o : Opener) (level : ℕ) (from : Cursor) (e : End) (body : List ℕ) 
 
 -- behind a token a run stands at the cursor
 pub behind-cursor : (w : ℕ) (to : Cursor) (s : State) → behind w to s .cursor ≡ to
-unfolding behind opened closed counted resumed movedTo
+unfolding behind opened closed withBraces resumed movedTo
 behind-cursor w to s =
     pick-cases At (either (eqb w Tokens.LeftBrace) (eqb w Tokens.MapStart)) _ _ (λ y. pick-cases At (eqb (s .level) 0) _ _ (λ z. refl) (λ z. refl))
     (λ n. pick-cases At (eqb w Tokens.RightBrace) _ _
@@ -111,7 +111,7 @@ module _ (rules : Rules) (t book : List ℕ) (s : State) (fine : Fine s) (small 
   unfolding behindOf
   passed to h l = fine-behind to s fine h (omega arith) Plain tt
 
-  pieced : (to : Cursor) → s .cursor .at < to .at → to .at ≤ length t → s .level < 16 → Fine (interpolated to s)
+  pieced : (to : Cursor) → s .cursor .at < to .at → to .at ≤ length t → s .level < 16 → Fine (interpolating to s)
   unfolding behindOf
   pieced to h l d = fine-behind to s fine h (omega arith) Piece d
 
@@ -121,7 +121,7 @@ module _ (rules : Rules) (t book : List ℕ) (s : State) (fine : Fine s) (small 
 
   listed-ahead : (o : Opener) (from : Cursor) (x : Trace) (e : End) → s .cursor .at < e .cursor .at → e .cursor .at ≤ length t → (e .interpolated ≡ true → s .level < 16)
       → length (bytes x) + 4 * s .cursor .at ≤ 4 * e .cursor .at → Ahead t s (listedOf o from x e s)
-  unfolding listedOf interpolated movedTo
+  unfolding listedOf interpolating movedTo
   listed-ahead o from x e f g d m =
       pick-cases (Ahead t s) (e .interpolated) _ _ (λ y. (f, g, pieced (e .cursor) f g (d y), m)) (λ n. (f, g, passed (e .cursor) f g, m))
 

@@ -16,7 +16,7 @@ use Rattle.comment.specs.Block.{commentTurn, commentOf}
 use Rattle.find.specs.Find.{whiteOf, wordOf, numberRun, symbolOf, lineComment, blockComment, slashSign, hashSign, signAt, markOf, beginsWord, beginsOf, findOf}
 use Rattle.reading.specs.Reading.{entries, literalBytes, whole}
 use Rattle.reading.specs.CutRun.{cutRun}
-use Rattle.script.specs.States.{begunAt, movedTo, interpolated, count, counted, resumed, opened, closed, behind}
+use Rattle.script.specs.States.{begunAt, movedTo, interpolating, count, withBraces, resumed, opened, closed, behind}
 use Rattle.script.specs.Steps.{literalTrace, verdictOf, listedOf, literalStep, endStep, stepOf}
 use Rattle.script.specs.Script.{readingFrom, scriptFrom, scriptOf}
 
@@ -46,7 +46,7 @@ the-finds = tt
 
 -- a run's steps
 unfoldable pub the-steps : Unit {0}
-unfolding start begunAt movedTo interpolated count counted resumed opened closed behind literalTrace verdictOf listedOf literalStep endStep stepOf
+unfolding start begunAt movedTo interpolating count withBraces resumed opened closed behind literalTrace verdictOf listedOf literalStep endStep stepOf
 the-steps = tt
 
 -- and what they leave

@@ -11,7 +11,7 @@ use Rattle.chars.specs.declared.cursor.Cursor.{Cursor}
 use Rattle.script.specs.declared.State.{State}
 use Rattle.script.specs.declared.Crossed.{Crossed}
 use Rattle.script.specs.declared.Crossed.the-variants.{Plain, Piece, Token}
-use Rattle.script.specs.States.{state, movedTo, count, counted, resumed, opened, closed, behind, behindOf}
+use Rattle.script.specs.States.{state, movedTo, count, withBraces, resumed, opened, closed, behind, behindOf}
 use Rattle.script.specs.Counts.{counts}
 
 -- ---- each way out of the test
@@ -47,8 +47,8 @@ module _ (level : ℕ) {what : Crossed} where
 -- where a symbol leads, by its tests
 abbrev there : Cursor → State → Bool → Bool → Bool → Bool → State
 there to s z a b c =
-    pick (either a b) (pick z (movedTo to s) (counted to (count s + 1) s))
-    (pick c (pick z (movedTo to s) (pick (leb (count s) 1) (resumed to s) (counted to (count s - 1) s))) (movedTo to s))
+    pick (either a b) (pick z (movedTo to s) (withBraces to (count s + 1) s))
+    (pick c (pick z (movedTo to s) (pick (leb (count s) 1) (resumed to s) (withBraces to (count s - 1) s))) (movedTo to s))
 
 only-further : (to : Cursor) (s : State) (z a b c : Bool) → both (isnt z) (either a (either b c)) ≡ false → there to s z a b c ≡ movedTo to s
 only-further to s z false false false n = refl

@@ -14,7 +14,7 @@ use Rattle.token.specs.Tokens as Tokens
 use Rattle.script.specs.declared.State.{State}
 use Rattle.script.specs.declared.Crossed.{Crossed}
 use Rattle.script.specs.declared.Crossed.the-variants.{Plain, Piece, Token}
-use Rattle.script.specs.States.{state, movedTo, interpolated, count, counted, resumed, opened, closed, behind, behindOf, Fine, Fits}
+use Rattle.script.specs.States.{state, movedTo, interpolating, count, withBraces, resumed, opened, closed, behind, behindOf, Fine, Fits}
 
 module _ (to : Cursor) (s : State) where
   pub opens-nothing : s .level ≡ 0 → opened to s ≡ movedTo to s
@@ -22,7 +22,7 @@ module _ (to : Cursor) (s : State) where
   opens-nothing q = rw (eq-eqb (s .level) 0 q)
 
   pub opens-one : (s .level ≡ 0 → ⊥) → opened to s ≡ state to (s .level) (set (s .braces) (s .level - 1) (getD (s .braces) (s .level - 1) 0 + 1)) false
-  unfolding opened counted count
+  unfolding opened withBraces count
   opens-one q = rw (ne-eqb (s .level) 0 q)
 
   pub closes-nothing : s .level ≡ 0 → closed to s ≡ movedTo to s
@@ -35,7 +35,7 @@ module _ (to : Cursor) (s : State) where
     closes-last h = rw (ne-eqb (s .level) 0 q, le-leb _ 1 h)
 
     pub closes-one : 1 < getD (s .braces) (s .level - 1) 0 → closed to s ≡ state to (s .level) (set (s .braces) (s .level - 1) (getD (s .braces) (s .level - 1) 0 - 1)) false
-    unfolding closed counted count
+    unfolding closed withBraces count
     closes-one h = rw (ne-eqb (s .level) 0 q, lt-leb _ 1 h)
 
 module _ (t : ℕ) (to : Cursor) (s : State) where
@@ -63,7 +63,7 @@ module _ {what : Crossed} (to : Cursor) (s : State) where
   unfolding behindOf
   passed-plain q = rw q
 
-  pub passed-piece : what ≡ Piece → behindOf what to s ≡ interpolated to s
+  pub passed-piece : what ≡ Piece → behindOf what to s ≡ interpolating to s
   unfolding behindOf
   passed-piece q = rw q
 
@@ -94,13 +94,13 @@ module _ (to : Cursor) (s : State) (fine : Fine s) (on : s .cursor .at < to .at)
   fine-moved = fine-at _ _ _ (fine .deep) few
 
   fine-opened : Fine (opened to s)
-  unfolding opened counted count
+  unfolding opened withBraces count
   fine-opened =
       pick-cases Fine (eqb (s .level) 0) _ _ (λ y. fine-moved)
       (λ n. fine-at _ _ _ (fine .deep) (set-few (s .braces) (s .level - 1) _ (to .at) (omega (arith, fine .few (s .level - 1))) few))
 
   fine-closed : Fine (closed to s)
-  unfolding closed counted resumed count
+  unfolding closed withBraces resumed count
   fine-closed =
       pick-cases Fine (eqb (s .level) 0) _ _ (λ y. fine-moved)
       (λ n. pick-cases Fine (leb (getD (s .braces) (s .level - 1) 0) 1) _ _
@@ -108,7 +108,7 @@ module _ (to : Cursor) (s : State) (fine : Fine s) (on : s .cursor .at < to .at)
       (λ m. fine-at _ _ _ (fine .deep) (set-few (s .braces) (s .level - 1) _ (to .at) (omega (arith, few (s .level - 1))) few)))
 
   pub fine-behind : (what : Crossed) → Fits what s → Fine (behindOf what to s)
-  unfolding behindOf interpolated behind
+  unfolding behindOf interpolating behind
   fine-behind Plain f = fine-moved
   fine-behind Piece f = fine-at _ _ _ (omega arith) (set-few (s .braces) (s .level) 0 (to .at) (omega arith) few)
   fine-behind (Token t) f =

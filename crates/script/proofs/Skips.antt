@@ -17,7 +17,7 @@ use Rattle.script.specs.Rules.{Rules}
 use Rattle.script.specs.declared.State.{State}
 use Rattle.script.specs.declared.Crossed.{Crossed}
 use Rattle.script.specs.declared.Crossed.the-variants.{Plain, Piece, Token}
-use Rattle.script.specs.States.{state, movedTo, interpolated, count, counted, resumed, opened, closed, behind, behindOf, Fine, Fits}
+use Rattle.script.specs.States.{state, movedTo, interpolating, count, withBraces, resumed, opened, closed, behind, behindOf, Fine, Fits}
 use Rattle.script.specs.Steps.{on, nothing, stepOf}
 use Rattle.script.specs.Script.{scriptFrom}
 use Rattle.script.specs.Skips.{skipped}
@@ -101,7 +101,7 @@ module _ (rules : Rules) (t : List ℕ) (s : State) where
       by false = refl
 
   pub skipped-behind : (what : Crossed) (to : Cursor) → behindOf what to (skipped rules t s) ≡ behindOf what to s
-  unfolding skipped movedTo interpolated count counted resumed opened closed behind behindOf
+  unfolding skipped movedTo interpolating count withBraces resumed opened closed behind behindOf
   skipped-behind what to = by (s .due) what
     where
       by : (d : Bool) (what : Crossed) → behindOf what to (pick d s (movedTo (skipOf (rules .white) t (s .cursor)) s)) ≡ behindOf what to s

@@ -28,7 +28,7 @@ use Rattle.reading.specs.Reading.{Reading}
 use Rattle.reading.proofs.Small.{Readable, Token-small}
 use Rattle.script.specs.Rules.{Rules}
 use Rattle.script.specs.declared.State.{State}
-use Rattle.script.specs.States.{movedTo, interpolated}
+use Rattle.script.specs.States.{movedTo, interpolating}
 use Rattle.script.specs.Steps.{Step, on, last, Note, nothing, token, literal, noted, literalTrace, verdictOf, listedOf, onVerdict, onEnd, literalStep, endStep, onFound, stepOf}
 use Rattle.script.specs.declared.Verdict.{Verdict}
 use Rattle.script.specs.declared.Verdict.the-variants as verdict
@@ -68,7 +68,7 @@ module _ (rules : Rules) (t book : List ℕ) where
   -- a literal that begins within the script, and lands within it
   module _ (o : Opener) (l : o .kind ≤ 11) (from : Cursor) (h : Small (from .place)) (inside : from .at ≤ length t) (s : State) (within : s .cursor .at ≤ length t) where
     ended-small : (x : Trace) → Traced (length t) x → (y : Outcome) → Lands t (from .at) 0 (length (bytes x)) y → Outcome-small (length t) y → Step-small (onEnd o from x s y)
-    unfolding listedOf interpolated movedTo
+    unfolding listedOf interpolating movedTo
     ended-small x i (bad f) land j = (h, i, j)
     ended-small x i (good e) land j = by (verdictOf o (s .level) from e (bytes x)) (verdict-small o (s .level) from e (bytes x) h j)
       where

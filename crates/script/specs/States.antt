@@ -29,16 +29,16 @@ unfoldable pub movedTo : Cursor → State → State
 movedTo c s = state c (s .level) (s .braces) false
 
 -- behind a piece of text that `${` ended: one interpolation more, with no brace open yet
-unfoldable pub interpolated : Cursor → State → State
-interpolated c s = state c (s .level + 1) (set (s .braces) (s .level) 0) false
+unfoldable pub interpolating : Cursor → State → State
+interpolating c s = state c (s .level + 1) (set (s .braces) (s .level) 0) false
 
 -- the open braces of the innermost interpolation
 unfoldable pub count : State → ℕ
 count s = getD (s .braces) (s .level - 1) 0
 
 -- so many of them, and the run stands at a cursor
-unfoldable pub counted : Cursor → ℕ → State → State
-counted c n s = state c (s .level) (set (s .braces) (s .level - 1) n) false
+unfoldable pub withBraces : Cursor → ℕ → State → State
+withBraces c n s = state c (s .level) (set (s .braces) (s .level - 1) n) false
 
 -- the innermost interpolation is closed, and its text goes on
 unfoldable pub resumed : Cursor → State → State
@@ -46,11 +46,11 @@ resumed c s = state c (s .level - 1) (set (s .braces) (s .level - 1) 0) true
 
 -- behind an opening brace
 unfoldable pub opened : Cursor → State → State
-opened c s = pick (eqb (s .level) 0) (movedTo c s) (counted c (count s + 1) s)
+opened c s = pick (eqb (s .level) 0) (movedTo c s) (withBraces c (count s + 1) s)
 
 -- behind a closing brace: the last one of an interpolation closes it
 unfoldable pub closed : Cursor → State → State
-closed c s = pick (eqb (s .level) 0) (movedTo c s) (pick (leb (count s) 1) (resumed c s) (counted c (count s - 1) s))
+closed c s = pick (eqb (s .level) 0) (movedTo c s) (pick (leb (count s) 1) (resumed c s) (withBraces c (count s - 1) s))
 
 -- behind a symbol
 unfoldable pub behind : ℕ → Cursor → State → State
@@ -59,7 +59,7 @@ behind t c s = pick (either (eqb t Tokens.LeftBrace) (eqb t Tokens.MapStart)) (o
 -- where a run stands behind what it has passed
 unfoldable pub behindOf : Crossed → Cursor → State → State
 behindOf Plain c s = movedTo c s
-behindOf Piece c s = interpolated c s
+behindOf Piece c s = interpolating c s
 behindOf (Token t) c s = behind t c s
 
 -- sixteen interpolations at most are open, each with no more braces than bytes were passed

@@ -23,7 +23,7 @@ use Rattle.find.specs.declared.Found.the-variants as found
 use Rattle.reading.specs.Reading as Reading
 use Rattle.reading.specs.Reading.{Token, Reading, finishes, halts, spoils, lists, reads}
 use Rattle.script.specs.Rules.{Rules}
-use Rattle.script.specs.States.{movedTo, interpolated, behind}
+use Rattle.script.specs.States.{movedTo, interpolating, behind}
 use Rattle.script.specs.declared.State.{State}
 use Rattle.script.specs.declared.Verdict.{Verdict}
 use Rattle.script.specs.declared.Verdict.the-variants.{Fine, Wrong}
@@ -68,7 +68,7 @@ startOf from s = cursor (s .cursor .at) (from .place)
 -- a literal that is listed: a piece of text that `${` ends opens an interpolation
 unfoldable pub listedOf : Opener → Cursor → Trace → End → State → Step
 listedOf o from t e s =
-    pick (e .interpolated) (on (literal (Reading.token Kind.interpolated (startOf from s) (e .cursor)) t) (interpolated (e .cursor) s))
+    pick (e .interpolated) (on (literal (Reading.token Kind.interpolated (startOf from s) (e .cursor)) t) (interpolating (e .cursor) s))
     (on (literal (Reading.token (o .kind) (startOf from s) (e .cursor)) t) (movedTo (e .cursor) s))
 
 abbrev pub onVerdict : Opener → Cursor → Trace → End → State → Verdict → Step

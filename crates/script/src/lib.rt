@@ -1,7 +1,7 @@
 // Where a run over a script stands: the Rust's TokenizeState, by value. specs/ has the reading of a script by the unlimited rules.
 ghost use mathlib.Core.Path.{_≡_};
 ghost use Prim.Native.Nat.{_<_};
-ghost use Rattle.script.specs.States.{begunAt, movedTo, interpolated, opened, closed, Fine, Fits, behindOf};
+ghost use Rattle.script.specs.States.{begunAt, movedTo, interpolating, opened, closed, Fine, Fits, behindOf};
 ghost use Rattle.script.specs.Counts.{passedOf, counts};
 use chars::cursor::Cursor;
 use fault::Fault;
@@ -80,9 +80,9 @@ fn moved_to(to: Cursor, s: State) -> State
 }
 
 // One interpolation more, with no brace open yet.
-fn interpolated(to: Cursor, s: State) -> State
+fn interpolating(to: Cursor, s: State) -> State
     requires { ⌜ s .level < 16 ⌝ }
-    ensures { λ r. ⌜ r ≡ interpolated to s ⌝ }
+    ensures { λ r. ⌜ r ≡ interpolating to s ⌝ }
 {
     let level = s.level;
     let mut braces = s.braces;
@@ -166,7 +166,7 @@ impl State {
     {
         match what {
             Crossed::Plain => moved_to(to, self),
-            Crossed::Piece => interpolated(to, self),
+            Crossed::Piece => interpolating(to, self),
             Crossed::Token(token) => {
                 if token == tokens::LEFT_BRACE {
                     return opened(to, self);

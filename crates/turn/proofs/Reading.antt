@@ -23,7 +23,7 @@ use Rattle.reading.specs.CutRun.{scanned, cutRun}
 use Rattle.reading.specs.declared.Bounds.{Bounds}
 use Rattle.reading.specs.declared.Ending.the-variants.{Stop}
 use Rattle.script.specs.Rules.{Rules}
-use Rattle.script.specs.States.{interpolated, behind, behindOf}
+use Rattle.script.specs.States.{interpolating, behind, behindOf}
 use Rattle.script.specs.Steps.{Step, startOf, literalTrace, verdictOf, listedOf, onVerdict, onEnd, literalStep}
 use Rattle.script.specs.declared.State.{State}
 use Rattle.script.specs.declared.Verdict.{Verdict}

@@ -4,7 +4,7 @@ use mathlib.Core.List.{List}
 use mathlib.Core.Path.{_≡_, refl, ap, _∙_}
 use lib.ListN.{length, getD}
 use Rattle.literal.specs.Cut.{wrote}
-use Rattle.literal.specs.Told.{refusalNumber, faultOf}
+use Rattle.literal.specs.Told.{refusalNumber, scannedFault}
 use Rattle.literal.specs.Trace.{Trace}
 use Rattle.literal.specs.declared.Scanned.{Scanned}
 use Rattle.literal.specs.declared.Scanned.the-variants.{Accepted, Refused}
@@ -15,8 +15,8 @@ use Rattle.c_names.proofs.pack.Short.{short-told, long-told}
 use Rattle.c_names.specs.LiteralRow.{literalRow, ScanLeaves}
 
 -- the number of the fault that is told
-pub fault-number : (s : Scanned) → faultOf s .number ≡ refusalNumber s
-unfolding faultOf refusalNumber
+pub fault-number : (s : Scanned) → scannedFault s .number ≡ refusalNumber s
+unfolding scannedFault refusalNumber
 fault-number (Accepted e n) = refl
 fault-number (Refused f) = refl
 

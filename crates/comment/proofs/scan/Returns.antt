@@ -9,7 +9,7 @@ use Rattle.chars.specs.Cursors.{cursor}
 use Rattle.door.specs.Door.{textOf, doorOf}
 use Rattle.chars.specs.Scan.{run, runAt, widths}
 use Rattle.fault.specs.Faults.{fault}
-use Rattle.comment.specs.Block.{comment, commentTurn, commentOf, commentRefuses, scanBlockCommentOf}
+use Rattle.comment.specs.Block.{commentAt, commentTurn, commentOf, commentRefuses, scanBlockCommentOf}
 use Rattle.comment.specs.declared.scan.Commented.{Commented}
 use Rattle.comment.specs.declared.scan.Commented.the-variants.{Done, Refused}
 
@@ -23,7 +23,7 @@ abbrev scans : ℕ → List ℕ → Commented
 scans level t = scanBlockCommentOf t 0 (given 1 1) level
 
 abbrev reached : ℕ → ℕ → ℕ → ℕ → Commented
-reached level at line column = Done (comment level (cursor at (given line column)))
+reached level at line column = Done (commentAt level (cursor at (given line column)))
 
 pub returned :
     (scans 1 (word "a*/b") ≡ reached 0 3 1 4)

@@ -25,7 +25,7 @@ use Rattle.chars.proofs.Follows.{followed, other-follows, nothing-follows}
 use Rattle.chars.proofs.Scans.{move-on, move-over, at-end, one-on, two-on, is-over}
 use Rattle.chars.proofs.Stretches.{is-other, stretched, stretch-low, stretch-high}
 use Rattle.chars.proofs.Stretches as stretches
-use Rattle.comment.specs.Block.{comment, Inside, inside, commentTurn, commentRule, commentOf}
+use Rattle.comment.specs.Block.{commentAt, Inside, inside, commentTurn, commentRule, commentOf}
 use Rattle.comment.specs.Step.{eatIfOf, moveOf, asStep, LevelFits, TurnFits}
 use Rattle.comment.specs.declared.scan.Comment.{Comment}
 use Rattle.comment.specs.declared.scan.Step.the-variants.{On, Over}
@@ -140,10 +140,10 @@ module _ (t : List ℕ) (level : ℕ) (from : Cursor) where
     plain n m l = rw (took .stands) (sym (ap asStep (one-on commentRule t (from .at) here (took .found) (rw (ne-eqb c 0x2F n, ne-eqb c 0x2A m, ne-eqb c 0x0A l)))))
 
 -- ---- the loop: a turn that goes on leaves the answer as it is, and one that is over gives it
-on-is : {n m : ℕ} {r s : Cursor} → On n s ≡ On m r → comment n s ≡ comment m r
+on-is : {n m : ℕ} {r s : Cursor} → On n s ≡ On m r → commentAt n s ≡ commentAt m r
 on-is e = cc
 
-over-is : {n m : ℕ} {r s : Cursor} → Over n s ≡ Over m r → comment n s ≡ comment m r
+over-is : {n m : ℕ} {r s : Cursor} → Over n s ≡ Over m r → commentAt n s ≡ commentAt m r
 over-is e = cc
 
 apart {ℓ} : {A : Type ℓ} {n m : ℕ} {r s : Cursor} → On n s ≡ Over m r → A
@@ -158,11 +158,11 @@ module _ (t : List ℕ) (level : ℕ) (from : Cursor) (m : ℕ) (next : Cursor) 
       go (on n at o) q h = move-on commentRule t (from .at) (here t level from) q ∙ ap (λ (x : Comment). commentOf t (x .cursor) (x .level)) (on-is (sym h))
       go (over x) q h = apart h
 
-  pub is-done : Over m next ≡ asStep (moveOf t level from) → commentOf t from level ≡ comment m next
+  pub is-done : Over m next ≡ asStep (moveOf t level from) → commentOf t from level ≡ commentAt m next
   unfolding moveOf commentOf
   is-done e = go (moveOf t level from) refl e
     where
-      go : (x : Move Inside (Unit {0}) Comment) → moveOf t level from ≡ x → Over m next ≡ asStep x → commentOf t from level ≡ comment m next
+      go : (x : Move Inside (Unit {0}) Comment) → moveOf t level from ≡ x → Over m next ≡ asStep x → commentOf t from level ≡ commentAt m next
       go (on n at o) q h = apart (sym h)
       go (over x) q h = move-over commentRule t (from .at) (here t level from) q ∙ over-is (sym h)
 

@@ -1,7 +1,7 @@
 -- What the identifier is, or its fault.
 use mathlib.Core.Path.{sym, ap, _∙_}
 use borrow.Author.Needs.{needs}
-use Rattle.identifier.specs.Told.{faultOf}
+use Rattle.identifier.specs.Told.{identifiedFault}
 use Rattle.find.proofs.Begins.{a-word, no-word}
 use Rattle.find.proofs.word.Statement.{statement}
 use Rattle.find.proofs.word.Tie as tie
@@ -10,7 +10,7 @@ returns : tie.Need-returns
 returns c =
     let told = c .before in
     let call = told .before .before in
-    sym (no-word (sym (call .identify .ensures) ∙ told .enum-told .given .1) (c .fault .ensures ∙ ap faultOf (call .identify .ensures)))
+    sym (no-word (sym (call .identify .ensures) ∙ told .enum-told .given .1) (c .fault .ensures ∙ ap identifiedFault (call .identify .ensures)))
 
 returns-2 : tie.Need-returns-2
 returns-2 c =

@@ -4,7 +4,7 @@ use mathlib.Core.Path.{_≡_, refl, sym, _∙_}
 use native.Mathlib.Nat.{sub-zero}
 use lib.ListN.{length, drop}
 use borrow.Author.Needs.{needs}
-use Rattle.listed.specs.Texts.{text, puts}
+use Rattle.listed.specs.Texts.{writing, puts}
 use Rattle.listed.specs.Listing.{entriesLines}
 use Rattle.listed.proofs.Puts.{puts-none}
 use Rattle.listed.proofs.Lines.{lines-next, lines-past}
@@ -15,7 +15,7 @@ abbrev Inv-loop : tie.InvT-loop
 Inv-loop script literals entries listed out₀ at₀ n₀ out at n =
     (n ≤ listed)
     × (length out ≡ length out₀)
-    × (puts (text out₀ 0) (entriesLines script literals listed entries) ≡ puts (text out at) (entriesLines script literals (listed - n) (drop (5 * n) entries)))
+    × (puts (writing out₀ 0) (entriesLines script literals listed entries) ≡ puts (writing out at) (entriesLines script literals (listed - n) (drop (5 * n) entries)))
 
 abbrev μ-loop : tie.MeasureT-loop
 μ-loop script literals entries listed out₀ at₀ n₀ out at n = listed - n

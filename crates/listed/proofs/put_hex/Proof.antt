@@ -4,7 +4,7 @@ use mathlib.Core.Path.{_≡_, refl, sym, _∙_}
 use lib.ListN.{length, drop}
 use borrow.Author.Needs.{needs}
 use Rattle.basis.specs.Words.{word}
-use Rattle.listed.specs.Texts.{text, puts}
+use Rattle.listed.specs.Texts.{writing, puts}
 use Rattle.listed.specs.Listing.{hexes}
 use Rattle.listed.proofs.Puts.{puts-none, puts-first}
 use Rattle.listed.proofs.Lines.{hex-none, hex-some, hexes-here, hexes-past}
@@ -12,7 +12,7 @@ use Rattle.listed.proofs.put_hex.Statement.{statement}
 use Rattle.listed.proofs.put_hex.Tie as tie
 
 abbrev Inv-loop : tie.InvT-loop
-Inv-loop bytes out₀ at n₀ i₀ out n i = (i ≤ length bytes) × (length out ≡ length out₀) × (puts (text out₀ at) (hexes bytes) ≡ puts (text out n) (hexes (drop i bytes)))
+Inv-loop bytes out₀ at n₀ i₀ out n i = (i ≤ length bytes) × (length out ≡ length out₀) × (puts (writing out₀ at) (hexes bytes) ≡ puts (writing out n) (hexes (drop i bytes)))
 
 abbrev μ-loop : tie.MeasureT-loop
 μ-loop bytes out₀ at n₀ i₀ out n i = length bytes - i

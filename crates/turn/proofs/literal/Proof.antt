@@ -5,7 +5,7 @@ use mathlib.Core.Path.{_≡_, sym, _∙_}
 use lib.ListN.{replicate}
 use borrow.Author.Needs.{needs}
 use Rattle.literal.specs.Trace.{Trace, bytes}
-use Rattle.literal.specs.Told.{faultOf}
+use Rattle.literal.specs.Told.{scannedFault}
 use Rattle.literal.specs.declared.Refusal.{Refusal}
 use Rattle.literal.specs.declared.Scanned.{Scanned}
 use Rattle.literal.specs.declared.Scanned.the-variants.{Refused}
@@ -37,8 +37,8 @@ abbrev zeros : List ℕ
 zeros = replicate 128 0
 
 -- the fault of a refusal
-refusal-fault : {r : Scanned} {f : Refusal} → r ≡ Refused f → faultOf r ≡ f .fault
-unfolding faultOf
+refusal-fault : {r : Scanned} {f : Refusal} → r ≡ Refused f → scannedFault r ≡ f .fault
+unfolding scannedFault
 refusal-fault e = rw e
 
 refused-returns : tie.Need-returns

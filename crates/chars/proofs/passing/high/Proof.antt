@@ -6,7 +6,7 @@ use mathlib.Core.Path.{_≡_, refl, ap, sym, _∙_}
 use lib.ListN.{length, getD}
 use Rattle.utf8.specs.Table.{lookAt}
 use Rattle.utf8.proofs.Laws.{at-width}
-use Rattle.chars.specs.Stretch.{Stretch, none, more, Next, High}
+use Rattle.chars.specs.Stretch.{Stretch, none, more, Next-char, High}
 use Rattle.chars.proofs.Stretches.{stretch-low}
 use Rattle.chars.proofs.passing.high.Statement.{statement}
 use Rattle.chars.proofs.passing.high.Tie as tie
@@ -41,7 +41,7 @@ module _ (w : tie.After-width Inv-loop μ-loop) where
   top = w .before .before .before .before
 
   module _ (n : w .width .result ≡ 0 → ⊥) where
-    next : Next (text top) High (at top) (begin top .args .stop) (w .width .result)
+    next : Next-char (text top) High (at top) (begin top .args .stop) (w .width .result)
     next = w .width .ensures .0 n
 
     some : (1 ≤ w .width .result) × (at top + w .width .result ≤ length (text top)) × (w .width .result ≤ 4)

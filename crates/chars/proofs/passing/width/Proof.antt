@@ -10,12 +10,12 @@ use Rattle.utf8.specs.Widths.{widthOf}
 use Rattle.utf8.specs.declared.Look.the-variants.{End}
 use Rattle.utf8.proofs.Laws.{at-width}
 use Rattle.utf8.proofs.Widths.{wide-char, wide-none, at-high}
-use Rattle.chars.specs.Stretch.{Next, High}
+use Rattle.chars.specs.Stretch.{Next-char, High}
 use Rattle.chars.proofs.passing.width.Statement.{statement}
 use Rattle.chars.proofs.passing.width.Tie as tie
 
 module _ (t : List ℕ) (at x stop : ℕ) (h : at < length t) (q : x ≡ getD t at 0) (g : 0x80 ≤ x) (l : at ≤ stop) where
-  next : {w : ℕ} → w ≡ widthOf (look (x ∷ drop (at + 1) t)) → w ≤ stop - at → (w ≡ 0 → ⊥) → Next t High at stop w
+  next : {w : ℕ} → w ≡ widthOf (look (x ∷ drop (at + 1) t)) → w ≤ stop - at → (w ≡ 0 → ⊥) → Next-char t High at stop w
   next e r n =
       let k = wide-char t at h (e ∙ ap (λ (b : ℕ). widthOf (look (b ∷ drop (at + 1) t))) q) n in
       record { code = k .0; found = k .1; fits = omega arith; is = at-high t at (omega arith) (k .1) }

@@ -3,7 +3,7 @@ use native.Mathlib.Omega.{arith}
 use mathlib.Core.Path.{refl}
 use lib.ListN.{length}
 use borrow.Author.Needs.{needs}
-use Rattle.chars.specs.Stretch.{Next}
+use Rattle.chars.specs.Stretch.{Next-char}
 use Rattle.raw.specs.Step.{Failing, again, ended}
 use Rattle.raw.proofs.scan.lost_at.Statement.{statement}
 use Rattle.raw.proofs.scan.lost_at.Tie as tie
@@ -16,7 +16,7 @@ module _ (c : tie.Else2) where
   abbrev begin : tie.Start
   begin = call .before .before .before .before
 
-  next : Next (begin .args .text .now) Failing (begin .args .at) (length (begin .args .text .now)) (call .failing .result)
+  next : Next-char (begin .args .text .now) Failing (begin .args .at) (length (begin .args .text .now)) (call .failing .result)
   next = call .failing .ensures (c .if2 .left)
 
 pub lost-at-spec : {M : Type 1} → statement M

@@ -5,7 +5,7 @@ use Rattle.script.proofs.Moves.{behind-left, behind-map, behind-right, 
 use Rattle.script.proofs.State.behind.Statement.{statement}
 use Rattle.script.proofs.State.behind.Tie as tie
 
-piece-requires : tie.Need-interpolated-requires
+piece-requires : tie.Need-interpolating-requires
 piece-requires c κs = room-for _ (c .enum-told2 .given .1) (c .before .before .pre .1)
 
 pub behind-spec : {M : Type 1} → statement M
@@ -25,5 +25,5 @@ behind-spec =
     (λ c. let told = c .before .before .before .before .before in c .closed .ensures ∙ sym (passed-token _ _ (told .what .given .1) ∙ behind-right _ _ _ (c .before .before .before .if1 .left) (c .before .before .if2 .left) (c .before .if3 .taken)))
     (λ c κs. search needs)
     (λ c. c .moved-to .ensures ∙ sym (passed-plain _ _ (c .before .enum-told .given .1)))
-    (λ c. c .interpolated .ensures ∙ sym (passed-piece _ _ (c .before .enum-told2 .given .1)))
+    (λ c. c .interpolating .ensures ∙ sym (passed-piece _ _ (c .before .enum-told2 .given .1)))
     (λ c. let told = c .before .before .before .before .before in c .moved-to2 .ensures ∙ sym (passed-token _ _ (told .what .given .1) ∙ behind-other _ _ _ (c .before .before .before .if1 .left) (c .before .before .if2 .left) (c .before .if3 .left))))
