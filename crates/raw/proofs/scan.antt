@@ -1,6 +1,7 @@
 pub mod Turns
 pub mod Steps
 pub mod Loops
+pub mod Attempts
 pub mod Passing
 pub mod Stands
 pub mod Readings

@@ -33,17 +33,22 @@ pub record Adds (mode : Newlines) (t : List ℕ) (k at : ℕ) (s : BodyState) (n
 abbrev pub Failing : Code → Type 0
 Failing c = (c ≡ quote → ⊥) × (c ≡ hash → ⊥)
 
--- what a quote is passed with, by what stands behind it: nothing before another quote, which begins the attempt anew; else the character that ends the attempt
-pub data Lost-at (t : List ℕ) (at : ℕ) : Lost → Type 0 where
-  again : lookAt t at ≡ Char quote 1 → Lost-at t at (record { width = 1; columns = 1 })
-  ended : {w : ℕ} → Next-char t Failing at (length t) w → Lost-at t at (record { width = w + 1; columns = 2 })
+-- so many hashes stand one behind the other from an offset on
+pub data Hashes (t : List ℕ) (at : ℕ) : ℕ → Type 0 where
+  none : Hashes t at 0
+  more : {n : ℕ} → Hashes t at n → lookAt t (at + n) ≡ Char hash 1 → Hashes t at (n + 1)
 
--- characters passed at once leave what a limit and a room make of the rest: from one stand to another, further on, with a body that has grown as much
-pub record BodyPasses (t : List ℕ) (limit room held : ℕ) (s r : Stand) : Type 0 where
+-- what a quote with so many hashes behind it is passed with, by what stands at the offset behind them: no more before another quote, which begins the attempt anew; else the character that ends the attempt
+pub data Lost-at (t : List ℕ) (hashes at : ℕ) : Lost → Type 0 where
+  again : lookAt t at ≡ Char quote 1 → Lost-at t hashes at (record { width = hashes + 1; columns = hashes + 1 })
+  ended : {w : ℕ} → Next-char t Failing at (length t) w → Lost-at t hashes at (record { width = hashes + w + 1; columns = hashes + 2 })
+
+-- characters passed at once in a literal that k hashes close leave what a limit and a room make of the rest: from one stand to another, further on, with a body that has grown as much
+pub record BodyPasses (t : List ℕ) (k limit room held : ℕ) (s r : Stand) : Type 0 where
   pub low : s .here .at ≤ r .here .at
   pub counts : r .n ≡ s .n + (r .here .at - s .here .at)
   pub fits : r .n ≤ room
-  pub same : (start : Position) (k : ℕ) (full : Refusal)
+  pub same : (start : Position) (full : Refusal)
       → cut full limit room (s .n) (runAt (bodyRule asSource start k) t (s .here .at) (bodyState held (s .here .place) (s .first)))
       ≡ cut full limit room (r .n) (runAt (bodyRule asSource start k) t (r .here .at) (bodyState held (r .here .place) (r .first)))
 

@@ -1,7 +1,7 @@
 // The scan of a raw string literal: the Rust's `parse_raw_string_literal` with nothing written.
 ghost use mathlib.Core.Bool.{true};
 ghost use mathlib.Core.Path.{_≡_};
-ghost use Prim.Native.Nat.{_≤_, _<_};
+ghost use Prim.Native.Nat.{ℕ, _+_, _≤_, _<_};
 ghost use lib.ListN.{length};
 ghost use Rattle.utf8.specs.Table.{lookAt};
 ghost use Rattle.utf8.specs.declared.Look.the-variants.{Char};
@@ -11,7 +11,7 @@ ghost use Rattle.literal.specs.declared.Scanned.the-variants as Scanned;
 ghost use Rattle.classes.specs.Marks.{quote};
 ghost use Rattle.literal.specs.Answers.{full};
 ghost use Rattle.raw.specs.Raw.{asSource, rawEnd, bodyOf, readOf};
-ghost use Rattle.raw.specs.Step.{heldBehind, cursorBehind, Failing, Lost-at, BodyPasses};
+ghost use Rattle.raw.specs.Step.{heldBehind, cursorBehind, Failing, Hashes, Lost-at, BodyPasses};
 use crate::open;
 use crate::open::Opened;
 use chars::cursor::Cursor;
@@ -81,7 +81,7 @@ struct Stand {
 // Outside an attempt to close, passes all that is neither a quote nor a line feed, as far as no limit and no room stops it.
 fn pass_plain(text: &[u8], limit: usize, room: usize, s: Stand) -> Stand
     requires { ⌜ s .n ≤ room ⌝ }
-    ensures { λ r. ⌜ BodyPasses (now (text .entry)) limit room 0 s r ⌝ }
+    ensures { λ r. ⌜ ((k : ℕ) → BodyPasses (now (text .entry)) k limit room 0 s r) ⌝ }
 {
     let from = s.here.at;
     let place = s.here.place;
@@ -130,21 +130,42 @@ fn is_quote(text: &[u8], at: usize) -> bool
     false
 }
 
-// How many bytes and columns a quote that closes nothing is passed with: alone where another quote, which begins the attempt to
-// close anew, stands behind it; else with the character that ends the attempt. It has no byte where nothing is passed.
+// How many hashes stand one behind the other from an offset on, counted up to k.
+fn hashes_at(text: &[u8], from: usize, k: usize) -> usize
+    ensures { λ r. ⌜ Hashes (now (text .entry)) from r ⌝ }
+{
+    let mut at = from;
+    let mut n = 0;
+    while n < k {
+        if text.len() <= at {
+            return n;
+        }
+        if text[at] as u32 != HASH {
+            return n;
+        }
+        at += 1;
+        n += 1;
+    }
+    n
+}
+
+// How many bytes and columns a quote that closes nothing is passed with: alone with the hashes behind it where another quote,
+// which begins the attempt to close anew, stands behind them; else with the character that ends the attempt too. It has no byte
+// where nothing is passed.
 struct Lost {
     width: usize,
     columns: usize,
 }
 
-// What a quote is passed with, by what stands behind it.
-fn lost_at(text: &[u8], at: usize) -> Lost
-    ensures { λ r. ⌜ ((r .width ≡ 0 → ⊥) → Lost-at (now (text .entry)) at r) ⌝ }
+// What a quote with so many hashes behind it is passed with, by what stands at the offset behind them.
+fn lost_at(text: &[u8], at: usize, hashes: usize) -> Lost
+    requires { ⌜ hashes < at ⌝ }
+    ensures { λ r. ⌜ ((r .width ≡ 0 → ⊥) → Lost-at (now (text .entry)) hashes at r) ⌝ }
 {
     if is_quote(text, at) {
         return Lost {
-            width: 1,
-            columns: 1,
+            width: hashes + 1,
+            columns: hashes + 1,
         };
     }
     let w = failing(text, at);
@@ -155,19 +176,19 @@ fn lost_at(text: &[u8], at: usize) -> Lost
         };
     }
     Lost {
-        width: w + 1,
-        columns: 2,
+        width: hashes + w + 1,
+        columns: hashes + 2,
     }
 }
 
-// Passes a quote that closes nothing: a line feed that ends its attempt to close starts no line.
-fn pass_quote(text: &[u8], limit: usize, room: usize, s: Stand) -> Stand
-    requires { ⌜ (s .n ≤ room) × (lookAt (now text) (s .here .at) ≡ Char quote 1) ⌝ }
-    ensures { λ r. ⌜ BodyPasses (now (text .entry)) limit room 0 s r ⌝ }
+// Passes a quote with the hashes behind it, too few to close: a line feed that ends the attempt to close starts no line.
+fn pass_attempt(text: &[u8], hashes: usize, limit: usize, room: usize, s: Stand) -> Stand
+    requires { ⌜ (s .n ≤ room) × (lookAt (now text) (s .here .at) ≡ Char quote 1) × Hashes (now text) (s .here .at + 1) hashes ⌝ }
+    ensures { λ r. ⌜ ((k : ℕ) → hashes < k → BodyPasses (now (text .entry)) k limit room 0 s r) ⌝ }
 {
     let at = s.here.at;
     let place = s.here.place;
-    let lost = lost_at(text, at + 1);
+    let lost = lost_at(text, at + 1 + hashes, hashes);
     let width = lost.width;
     if width == 0 {
         return s;
@@ -185,10 +206,27 @@ fn pass_quote(text: &[u8], limit: usize, room: usize, s: Stand) -> Stand
     }
 }
 
+// Passes a quote that closes nothing in a literal that k hashes close. Mostly no hash stands behind it, which is tried first.
+fn pass_quote(text: &[u8], k: usize, limit: usize, room: usize, s: Stand) -> Stand
+    requires { ⌜ (1 ≤ k) × (s .n ≤ room) × (lookAt (now text) (s .here .at) ≡ Char quote 1) ⌝ }
+    ensures { λ r. ⌜ BodyPasses (now (text .entry)) k limit room 0 s r ⌝ }
+{
+    let at = s.here.at;
+    let alone = pass_attempt(text, 0, limit, room, s);
+    if alone.here.at == at {
+        let hashes = hashes_at(text, at + 1, k);
+        if k <= hashes {
+            return s;
+        }
+        return pass_attempt(text, hashes, limit, room, s);
+    }
+    alone
+}
+
 // Passes a line feed, or a quote that closes nothing.
-fn pass_one(text: &[u8], limit: usize, room: usize, s: Stand) -> Stand
-    requires { ⌜ s .n ≤ room ⌝ }
-    ensures { λ r. ⌜ BodyPasses (now (text .entry)) limit room 0 s r ⌝ }
+fn pass_one(text: &[u8], k: usize, limit: usize, room: usize, s: Stand) -> Stand
+    requires { ⌜ (1 ≤ k) × (s .n ≤ room) ⌝ }
+    ensures { λ r. ⌜ BodyPasses (now (text .entry)) k limit room 0 s r ⌝ }
 {
     let at = s.here.at;
     if text.len() <= at {
@@ -196,7 +234,7 @@ fn pass_one(text: &[u8], limit: usize, room: usize, s: Stand) -> Stand
     }
     let c = text[at] as u32;
     if c == QUOTE {
-        return pass_quote(text, limit, room, s);
+        return pass_quote(text, k, limit, room, s);
     }
     if c != LF {
         return s;
@@ -213,16 +251,16 @@ fn pass_one(text: &[u8], limit: usize, room: usize, s: Stand) -> Stand
 }
 
 // Outside an attempt to close, passes what is kept, as long as there is any and no limit and no room stops it.
-fn ahead(text: &[u8], limit: usize, room: usize, held: usize, from: Stand) -> Stand
-    requires { ⌜ from .n ≤ room ⌝ }
-    ensures { λ r. ⌜ BodyPasses (now (text .entry)) limit room held from r ⌝ }
+fn ahead(text: &[u8], k: usize, limit: usize, room: usize, held: usize, from: Stand) -> Stand
+    requires { ⌜ (1 ≤ k) × (from .n ≤ room) ⌝ }
+    ensures { λ r. ⌜ BodyPasses (now (text .entry)) k limit room held from r ⌝ }
 {
     if 0 < held {
         return from;
     }
     let mut s = from;
     loop {
-        let kept = pass_one(text, limit, room, s);
+        let kept = pass_one(text, k, limit, room, s);
         if kept.here.at == s.here.at {
             let next = pass_plain(text, limit, room, kept);
             if next.here.at == kept.here.at {
@@ -248,7 +286,7 @@ fn body_of(text: &[u8], start: Cursor, from: Cursor, k: usize, limit: usize, roo
     let mut held = 0;
     let mut n = 0;
     loop {
-        let s = ahead(text, limit, room, held, Stand { here, first, n });
+        let s = ahead(text, k, limit, room, held, Stand { here, first, n });
         here = s.here;
         first = s.first;
         let Taken::Char(c, next) = here.eat_next_and_advance(text) else {

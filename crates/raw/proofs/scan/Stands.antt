@@ -51,13 +51,13 @@ module _ (t : List ℕ) (start from : Cursor) (k limit room : ℕ) where
     state = bodyState held (here .place) first
 
     -- behind what was passed at once
-    pub passed : {r : Stand} → BodyPasses t limit room held (record { here = here; first = first; n = n }) r → Stands (r .here) (r .first) held (r .n)
+    pub passed : {r : Stand} → BodyPasses t k limit room held (record { here = here; first = first; n = n }) r → Stands (r .here) (r .first) held (r .n)
     passed p = record {
       fits = omega (arith, s .fits, p .low);
       small = s .small;
       counts = omega (arith, s .fits, s .counts, p .low, p .counts);
       has-room = p .fits;
-      rest = s .rest ∙ p .same (start .place) k (full start);
+      rest = s .rest ∙ p .same (start .place) (full start);
     }
 
     -- the text ends

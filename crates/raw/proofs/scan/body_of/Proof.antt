@@ -95,7 +95,7 @@ body-of-spec =
     Inv-loop
     μ-loop
     (λ c. begins _ _ _ _ _ _ none-is)
-    (λ c κs. c .loop .inv .has-room)
+    (λ c κs. (c .before .before .pre, c .loop .inv .has-room))
     (λ c κs. search needs)
     (λ c. search needs)
     (λ c. search needs)

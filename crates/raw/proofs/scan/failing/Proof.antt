@@ -1,7 +1,6 @@
 -- A byte of ASCII is a character; the width of a longer one tells it.
 use native.Mathlib.Omega.{arith}
 use mathlib.Core.Path.{refl, sym}
-use lib.ListN.{length}
 use borrow.Author.Needs.{needs}
 use Rattle.utf8.proofs.Bits.{look-ascii}
 use Rattle.utf8.proofs.Laws.{at-width}

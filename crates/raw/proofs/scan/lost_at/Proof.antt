@@ -24,8 +24,12 @@ lost-at-spec =
     tie.close
     (tie.spec
     (λ c κs. search needs)
+    (λ c. let b = c .before .before .before in omega (arith, b .pre, b .good))
+    (λ c. let b = c .before .before .before in omega (arith, b .pre, b .good))
     (λ c n. again (c .before .is-quote .ensures (c .if1 .taken)))
     (λ c κs. search needs)
     (λ c n. absurd (n refl))
-    (λ c. omega (arith, next c .fits, begin c .good))
+    (λ c. omega (arith, next c .fits, begin c .pre, begin c .good))
+    (λ c. omega (arith, next c .fits, begin c .pre, begin c .good))
+    (λ c. omega (arith, next c .fits, c .if2 .left, begin c .pre, begin c .good))
     (λ c n. ended (next c)))

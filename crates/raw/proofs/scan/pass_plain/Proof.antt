@@ -22,12 +22,12 @@ module _ (k : tie.After-pass) where
   low = stretch-low (k .pass .ensures .0)
 
 returns-2 : tie.Need-returns-2
-returns-2 c =
+returns-2 c k =
     let first = c .before .before in
     let some = first .before .before .before in
-    let k = some .before .before in
-    let most = k .before in
-    passes-some _ _ _ _ _ (most .most .ensures .0) (most .most .ensures .1) (k .pass .ensures .0) (k .pass .ensures .1) (some .if1 .left)
+    let call = some .before .before in
+    let most = call .before in
+    passes-some _ k _ _ _ _ (most .most .ensures .0) (most .most .ensures .1) (call .pass .ensures .0) (call .pass .ensures .1) (some .if1 .left)
     (first .before .before .advanced-by .ensures) (first .or-else .ensures ∙ ap (orElse _) (first .before .advanced .ensures)) refl
 
 pub pass-plain-spec : {M : Type 1} → statement M
@@ -36,7 +36,7 @@ pass-plain-spec =
     (tie.spec
     (λ c κs. search needs)
     (λ c κs. search needs)
-    (λ c. passes-none _ _ _ _ _ (begin (c .before .before) .pre))
+    (λ c k. passes-none _ k _ _ _ _ (begin (c .before .before) .pre))
     (λ c κs. search needs)
     (λ c κs. search needs)
     (λ c κs. search needs)
