@@ -13,33 +13,33 @@ use Rattle.utf8.specs.Table.{ch, charsAt, lookAt}
 use Rattle.utf8.specs.declared.Look.the-variants.{Char}
 use Rattle.utf8.proofs.Laws.{at-width}
 use Rattle.chars.specs.Scan.{go, Rule, runAt}
-use Rattle.chars.specs.Stretch.{Stretch, none, more, among, Low, High, Other}
+use Rattle.chars.specs.Stretch.{Stretch-of, none, more, among, Low, High, Other}
 use Rattle.chars.proofs.Scans.{move-on, one-on}
 
 -- ---- how far a stretch goes
 module _ {t : List ℕ} {of : ℕ → Type 0} {a : ℕ} where
-  pub stretch-low : {k b : ℕ} → Stretch t of a k b → a + k ≤ b
+  pub stretch-low : {k b : ℕ} → Stretch-of t of a k b → a + k ≤ b
   stretch-low none = omega arith
   stretch-low (more {k} {b} {c} {w} p e y) = omega (arith, stretch-low p, at-width t b e)
 
-  pub stretch-high : {k b : ℕ} → Stretch t of a k b → a ≤ length t → b ≤ length t
+  pub stretch-high : {k b : ℕ} → Stretch-of t of a k b → a ≤ length t → b ≤ length t
   stretch-high none h = h
   stretch-high (more {k} {b} {c} {w} p e y) h = at-width t b e .1
 
   -- no character, and one more, however they are counted
-  pub no-more : {k : ℕ} → k ≡ 0 → Stretch t of a k a
+  pub no-more : {k : ℕ} → k ≡ 0 → Stretch-of t of a k a
   no-more q = rw q none
 
-  pub one-more : {k j b c w : ℕ} → Stretch t of a k b → lookAt t b ≡ Char c w → of c → j ≡ k + 1 → Stretch t of a j (b + w)
+  pub one-more : {k j b c w : ℕ} → Stretch-of t of a k b → lookAt t b ≡ Char c w → of c → j ≡ k + 1 → Stretch-of t of a j (b + w)
   one-more p e y q = rw q (more p e y)
 
   -- a stretch and then one of another class, whose characters are all of this one
-  pub then-more : {on : ℕ → Type 0} → ((c : ℕ) → on c → of c) → {k b j i e : ℕ} → Stretch t of a k b → Stretch t on b j e → i ≡ k + j → Stretch t of a i e
+  pub then-more : {on : ℕ → Type 0} → ((c : ℕ) → on c → of c) → {k b j i e : ℕ} → Stretch-of t of a k b → Stretch-of t on b j e → i ≡ k + j → Stretch-of t of a i e
   then-more f {k} {b} {j} {i} p none q = let z : i ≡ k = omega arith in rw z p
   then-more f {k} {b} {j} {i} p (more s e y) q = one-more (then-more f p s refl) e (f _ y) (omega arith)
 
   -- of one character at least
-  pub stretch-within : {k b : ℕ} → Stretch t of a k b → a < b → b ≤ length t
+  pub stretch-within : {k b : ℕ} → Stretch-of t of a k b → a < b → b ≤ length t
   stretch-within none h = absurd (omega arith)
   stretch-within (more {k} {b} {c} {w} p e y) h = at-width t b e .1
 
@@ -55,7 +55,7 @@ module _ {S N R A : Type 0} (rule : Rule S N R) (t : List ℕ) (state : ℕ → 
   plain-turn {k} {b} {c} {w} e q v = ap (view b) (move-on rule t b (state k) (one-on rule t b (state k) e q)) ∙ v (runAt rule t (b + w) (state (k + 1)))
 
   module _ (of : ℕ → Type 0) (a end : ℕ) (plain : (k b c w : ℕ) → a ≤ b → b + w ≤ end → lookAt t b ≡ Char c w → of c → Plain k b w) where
-    pub stretched : {k b : ℕ} → Stretch t of a k b → b ≤ end → view a (runAt rule t a (state 0)) ≡ view b (runAt rule t b (state k))
+    pub stretched : {k b : ℕ} → Stretch-of t of a k b → b ≤ end → view a (runAt rule t a (state 0)) ≡ view b (runAt rule t b (state k))
     stretched none h = refl
     stretched (more {k} {b} {c} {w} p e y) h = stretched p (omega arith) ∙ plain k b c w (omega (arith, stretch-low p)) h e y
 

@@ -15,5 +15,5 @@ Goes what c = goesOn what c ≡ true
 
 -- k characters that go on stand between two offsets, and none behind them
 pub record Ends (what : Stretch) (t : List ℕ) (from k to : ℕ) : Type 0 where
-  pub passed : chars.Stretch t (Goes what) from k to
+  pub passed : chars.Stretch-of t (Goes what) from k to
   pub stops : (c w : ℕ) → lookAt t to ≡ Char c w → goesOn what c ≡ false

@@ -9,9 +9,9 @@ use Rattle.utf8.specs.Table.{lookAt}
 use Rattle.utf8.specs.declared.Look.the-variants.{Char}
 
 -- from one offset to another by so many characters of a class
-pub data Stretch (t : List ℕ) (of : ℕ → Type 0) (a : ℕ) : ℕ → ℕ → Type 0 where
-  none : Stretch t of a 0 a
-  more : {k b c w : ℕ} → Stretch t of a k b → lookAt t b ≡ Char c w → of c → Stretch t of a (k + 1) (b + w)
+pub data Stretch-of (t : List ℕ) (of : ℕ → Type 0) (a : ℕ) : ℕ → ℕ → Type 0 where
+  none : Stretch-of t of a 0 a
+  more : {k b c w : ℕ} → Stretch-of t of a k b → lookAt t b ≡ Char c w → of c → Stretch-of t of a (k + 1) (b + w)
 
 -- a character of the class, w bytes wide, is next and ends by an offset
 pub record Next-char (t : List ℕ) (of : ℕ → Type 0) (at stop w : ℕ) : Type 0 where

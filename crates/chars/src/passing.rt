@@ -4,7 +4,7 @@ ghost use Prim.Native.Nat.{_+_, _≤_, _<_};
 ghost use lib.ListN.{length, getD};
 ghost use Rattle.utf8.specs.Table.{lookAt};
 ghost use Rattle.utf8.specs.declared.Look.the-variants.{End};
-ghost use Rattle.chars.specs.Stretch.{Stretch, Next-char, among, Low, High, Other};
+ghost use Rattle.chars.specs.Stretch.{Stretch-of, Next-char, among, Low, High, Other};
 
 // The offset behind what was passed, and how many characters that is.
 pub struct Passed {
@@ -61,7 +61,7 @@ fn width(text: &[u8], at: usize, x: u32, stop: usize) -> usize
 // no character begins there. It has two callers, so that the compiler keeps it apart and the loops of ASCII small.
 pub(crate) fn high(text: &[u8], from: usize, stop: usize) -> Passed
     requires { ⌜ (from < stop) × (stop ≤ length (now text)) × (0x80 ≤ getD (now text) from 0) ⌝ }
-    ensures { λ r. ⌜ Stretch (now (text .entry)) High from (r .count) (r .at) ⌝ }
+    ensures { λ r. ⌜ Stretch-of (now (text .entry)) High from (r .count) (r .at) ⌝ }
     ensures { λ r. ⌜ r .at ≤ stop ⌝ }
     ensures { λ r. ⌜ (r .count ≡ 0 → stop ≡ length (now (text .entry)) → lookAt (now (text .entry)) from ≡ End) ⌝ }
 {
@@ -85,7 +85,7 @@ pub(crate) fn high(text: &[u8], from: usize, stop: usize) -> Passed
 // Passes the characters that are none of five, in `most` bytes at the most. The five are ASCII, so a longer character is none of them.
 pub fn pass(text: &[u8], from: usize, most: usize, a: u32, b: u32, d: u32, e: u32, f: u32) -> Passed
     requires { ⌜ Low a b d e f ⌝ }
-    ensures { λ r. ⌜ Stretch (now (text .entry)) (Other a b d e f) from (r .count) (r .at) ⌝ }
+    ensures { λ r. ⌜ Stretch-of (now (text .entry)) (Other a b d e f) from (r .count) (r .at) ⌝ }
     ensures { λ r. ⌜ r .at ≤ from + most ⌝ }
 {
     let stop = last(text.len(), from, most);

@@ -10,8 +10,8 @@ use Rattle.chars.specs.declared.cursor.Taken.{Taken}
 use Rattle.chars.specs.declared.cursor.Taken.the-variants.{End}
 use Rattle.comment.specs.Block.{Inside, inside, commentRule}
 use Rattle.comment.specs.declared.scan.Comment.{Comment}
-use Rattle.comment.specs.declared.scan.Step.{Step}
-use Rattle.comment.specs.declared.scan.Step.the-variants.{On, Over}
+use Rattle.comment.specs.declared.scan.Led.{Led}
+use Rattle.comment.specs.declared.scan.Led.the-variants.{On, Over}
 
 -- the next character taken if it is c
 unfoldable pub eatIfOf : Text → Cursor → Code → Taken
@@ -22,9 +22,9 @@ unfoldable pub moveOf : Text → ℕ → Cursor → Move Inside (Unit {0}) Comme
 moveOf t level from = moveAt commentRule t (from .at) (inside level (from .place))
 
 -- a move as the code says it
-abbrev pub asStep : Move Inside (Unit {0}) Comment → Step
-asStep (on n at s) = On (s .level) (cursor at (s .place))
-asStep (over c) = Over (c .level) (c .cursor)
+abbrev pub asLed : Move Inside (Unit {0}) Comment → Led
+asLed (on n at s) = On (s .level) (cursor at (s .place))
+asLed (over c) = Over (c .level) (c .cursor)
 
 -- what a turn in a text of n bytes needs: the level cannot wrap, and the cursor is within the text
 pub record LevelFits (n level : ℕ) (from : Cursor) : Type 0 where
@@ -33,6 +33,6 @@ pub record LevelFits (n level : ℕ) (from : Cursor) : Type 0 where
   pub within : from .at ≤ n
 
 -- a turn that goes on leaves it so, further on
-abbrev pub TurnFits : ℕ → Cursor → Step → Type 0
+abbrev pub TurnFits : ℕ → Cursor → Led → Type 0
 TurnFits n from (On level next) = LevelFits n level next × (from .at < next .at)
 TurnFits n from (Over level last) = Unit {0}

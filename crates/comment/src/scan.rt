@@ -3,7 +3,7 @@ ghost use mathlib.Core.Path.{_≡_};
 ghost use Prim.Native.Nat.{_≤_};
 ghost use lib.ListN.{length};
 ghost use Rattle.comment.specs.Block.{commentOf};
-ghost use Rattle.comment.specs.Step.{eatIfOf, moveOf, asStep, LevelFits, TurnFits};
+ghost use Rattle.comment.specs.Step.{eatIfOf, moveOf, asLed, LevelFits, TurnFits};
 use chars::cursor::Cursor;
 use chars::cursor::Taken;
 use classes::marks::LF;
@@ -24,7 +24,7 @@ pub enum Commented {
 }
 
 // One turn of the scan, with the level that is then open and the cursor: it goes on, or it is over.
-enum Step {
+enum Led {
     On(usize, Cursor),
     Over(usize, Cursor),
 }
@@ -43,35 +43,35 @@ fn eat_if(text: &[u8], from: Cursor, c: u32) -> Taken
 }
 
 // Takes a character, or a pair whole.
-fn turn(text: &[u8], level: usize, from: Cursor) -> Step
+fn turn(text: &[u8], level: usize, from: Cursor) -> Led
     requires { ⌜ LevelFits (length (now text)) level from ⌝ }
-    ensures { λ r. ⌜ r ≡ asStep (moveOf (now (text .entry)) level from) ⌝ }
+    ensures { λ r. ⌜ r ≡ asLed (moveOf (now (text .entry)) level from) ⌝ }
     ensures { λ r. ⌜ TurnFits (length (now (text .entry))) from r ⌝ }
 {
     let Taken::Char(c, next) = from.eat_next_and_advance(text) else {
-        return Step::Over(level, from);
+        return Led::Over(level, from);
     };
     if c == SLASH {
         let Taken::Char(_, after) = eat_if(text, next, STAR) else {
-            return Step::On(level, next);
+            return Led::On(level, next);
         };
-        return Step::On(level + 1, after);
+        return Led::On(level + 1, after);
     }
     if c == STAR {
         let Taken::Char(_, after) = eat_if(text, next, SLASH) else {
-            return Step::On(level, next);
+            return Led::On(level, next);
         };
         if level == 1 {
-            return Step::Over(0, after);
+            return Led::Over(0, after);
         }
-        return Step::On(level - 1, after);
+        return Led::On(level - 1, after);
     }
     if c == LF {
         let at = next.at;
         let place = next.place.lined();
-        return Step::On(level, Cursor { at, place });
+        return Led::On(level, Cursor { at, place });
     }
-    Step::On(level, next)
+    Led::On(level, next)
 }
 
 // The scan of a text from a place, both found good, for a run.
@@ -89,11 +89,11 @@ pub fn scan(text: &[u8], start: Cursor, level: usize) -> Comment
         };
         let step = turn(text, depth, cursor);
         match step {
-            Step::On(n, next) => {
+            Led::On(n, next) => {
                 depth = n;
                 cursor = next;
             }
-            Step::Over(n, last) => {
+            Led::Over(n, last) => {
                 return Comment {
                     level: n,
                     cursor: last,

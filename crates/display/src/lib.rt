@@ -21,43 +21,43 @@ pub enum Shown {
 
 // A text while it is put together: its length, and the bytes with it in front. None has more than
 // the 26 bytes of `line 65535, position 65535`.
-struct Text {
+struct Buffer {
     bytes: [u8; 32],
     len: usize,
 }
 
 // A text with no byte yet.
-const BLANK: Text = Text {
+const BLANK: Buffer = Buffer {
     bytes: [0; 32],
     len: 0,
 };
 
 // One byte more.
-fn put_byte(t: Text, b: u8) -> Text
+fn put_byte(t: Buffer, b: u8) -> Buffer
     requires { ⌜ t .len < 32 ⌝ }
     ensures { λ r. ⌜ Put t (b ∷ []) 1 r ⌝ }
 {
     let len = t.len;
     let mut bytes = t.bytes;
     bytes[len] = b;
-    Text {
+    Buffer {
         bytes,
         len: len + 1,
     }
 }
 
 // The bytes of a word, which have room.
-fn put_word(t: Text, word: &[u8]) -> Text
+fn put_word(t: Buffer, word: &[u8]) -> Buffer
     requires { ⌜ t .len + length (now word) ≤ 32 ⌝ }
     ensures { λ r. ⌜ Put t (now (word .entry)) (length (now (word .entry))) r ⌝ }
 {
     let mut bytes = t.bytes;
     let len = lent::copy(word, &mut bytes, t.len);
-    Text { bytes, len }
+    Buffer { bytes, len }
 }
 
 // The digits of a number: those of its tens, and then the last.
-fn put_decimal(mut t: Text, n: u16) -> Text
+fn put_decimal(mut t: Buffer, n: u16) -> Buffer
     requires { ⌜ t .len + 5 ≤ 32 ⌝ }
     ensures { λ r. ⌜ Put t (decimal n) 5 r ⌝ }
 {
@@ -68,7 +68,7 @@ fn put_decimal(mut t: Text, n: u16) -> Text
 }
 
 // A byte, and the column behind it: ":7".
-fn put_column(t: Text, before: u8, p: Position) -> Text
+fn put_column(t: Buffer, before: u8, p: Position) -> Buffer
     requires { ⌜ t .len + 6 ≤ 32 ⌝ }
     ensures { λ r. ⌜ Put t (before ∷ decimal (columnNumber p)) 6 r ⌝ }
 {
@@ -76,7 +76,7 @@ fn put_column(t: Text, before: u8, p: Position) -> Text
 }
 
 // "none", "3", "3:7".
-fn put_debug(mut t: Text, p: Position) -> Text
+fn put_debug(mut t: Buffer, p: Position) -> Buffer
     requires { ⌜ t .len + 11 ≤ 32 ⌝ }
     ensures { λ r. ⌜ Put t (debugOf p) 11 r ⌝ }
 {
@@ -91,7 +91,7 @@ fn put_debug(mut t: Text, p: Position) -> Text
 }
 
 // "line 3, position 7"; NONE reads the same in both forms.
-fn put_display(mut t: Text, p: Position) -> Text
+fn put_display(mut t: Buffer, p: Position) -> Buffer
     requires { ⌜ t .len + 26 ≤ 32 ⌝ }
     ensures { λ r. ⌜ Put t (displayOf p) 26 r ⌝ }
 {
@@ -107,7 +107,7 @@ fn put_display(mut t: Text, p: Position) -> Text
 // The cases of the Rust's match: "2:3", "..2:3", "1:9-3:7", "1:9-15". Its first and its third are one: up to NONE the start is
 // alone, NONE too. Past them neither place is NONE, so that the numbers of the lines differ exactly where the Rust's Options do, and
 // its `start.line().unwrap()` cannot fail.
-fn put_span(mut t: Text, s: Span) -> Text
+fn put_span(mut t: Buffer, s: Span) -> Buffer
     requires { ⌜ t .len + 23 ≤ 32 ⌝ }
     ensures { λ r. ⌜ Put t (spanOf s) 23 r ⌝ }
 {

@@ -11,7 +11,7 @@ use Rattle.reading.specs.declared.Bounds.{Bounds}
 use Rattle.script.specs.Rules.{document01}
 use Rattle.entry.specs.Entries.{numbersOf}
 use Rattle.reading.proofs.Fits.{cut-fits}
-use Rattle.run.specs.Run.{runReading, boundsOf, runOf, ranOf, literalsOf, entriesOf, Called, called, holds}
+use Rattle.run.specs.Run.{runReading, boundsOf, runOf, ranOf, Called, called, holds}
 use Rattle.run.specs.declared.Ran.{Ran}
 use Rattle.listed.specs.Texts.{Writing, writing, put, puts}
 use Rattle.listed.specs.Listing.{entriesLines, endingLine, leftLines, runLines, listingOf}

@@ -11,7 +11,7 @@ use Rattle.literal.specs.declared.Scanned.{Scanned}
 use Rattle.raw.proofs.parse_raw_string_literal.Reads as scan
 use Rattle.raw_writer.proofs.raw_write.Reads as write
 use Rattle.raw_writer.specs.Writer.{rawLiteralOf}
-use Rattle.promises.specs.RoundTrip.{Utf8, Admits, Valid, Within, Room, made, Comes-back}
+use Rattle.promises.specs.RoundTrip.{Utf8, Admits, Valid, Within, Has-room, made, Comes-back}
 use Rattle.promises.proofs.RoundTrip.{round-trip}
 
 -- `raw_write` was lent a body and a buffer and answered w; then `parse_raw_string_literal` was lent a text with what was made in it, an offset, a place, a limit and another buffer, and answered r
@@ -25,7 +25,7 @@ module _
     (writes : write.Learnt κs (body, (lent, tt)) w (body′, (lent′, tt)))
     (scans : scan.Learnt ιs (text, (at, (start, (limit, (buffer, tt))))) r (text′, (at′, (start′, (limit′, (buffer′, tt)))))) where
   pub calls-come-back : (before after : List ℕ) → now text ≡ before ++ made w (now lent′) ++ after → at ≡ length before + 1
-      → Utf8 (now body) → Valid start → Admits (before ++ rawLiteralOf (now body) ++ after) → Room (rawLiteralOf (now body)) (now lent) → Within limit (now body) → Room (now body) (now buffer)
+      → Utf8 (now body) → Valid start → Admits (before ++ rawLiteralOf (now body) ++ after) → Has-room (rawLiteralOf (now body)) (now lent) → Within limit (now body) → Has-room (now body) (now buffer)
       → Comes-back (now body) before start (now buffer) w r (now buffer′)
   calls-come-back before after e q formed valid admitted room within space =
       let b = round-trip (now body) before after (now lent) (now buffer) start limit formed valid admitted room within space in

@@ -42,8 +42,8 @@ abbrev pub Within : ℕ → List ℕ → Type 0
 Within limit xs = passes limit (length xs) ≡ false
 
 -- bytes have room in a buffer
-abbrev pub Room : List ℕ → List ℕ → Type 0
-Room xs buffer = length xs ≤ length buffer
+abbrev pub Has-room : List ℕ → List ℕ → Type 0
+Has-room xs buffer = length xs ≤ length buffer
 
 -- ---- who takes part
 -- a writer: its answer to a body and a lent buffer, and what the buffer holds then
@@ -106,9 +106,9 @@ Reads-back w s =
     → Utf8 body
     → Valid start
     → Admits (before ++ rawLiteralOf body ++ after)
-    → Room (rawLiteralOf body) lent
+    → Has-room (rawLiteralOf body) lent
     → Within limit body
-    → Room body buffer
+    → Has-room body buffer
     → let text = before ++ made (w .answers body lent) (w .leaves body lent) ++ after in
     Comes-back body before start buffer (w .answers body lent) (s .answers text (length before + 1) start limit buffer) (s .leaves text (length before + 1) start limit buffer)
 

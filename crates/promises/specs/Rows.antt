@@ -38,12 +38,12 @@ pub data Answer : Type 0 where
   refused : ℕ → Position → Answer
 
 -- an example: what the definitions answer, and what document 01 says
-pub record Row : Type 0 where
+pub record Table-row : Type 0 where
   pub asked : Answer
   pub said : Answer
 
 infix 5 _⇒_
-abbrev pub _⇒_ : Answer → Answer → Row
+abbrev pub _⇒_ : Answer → Answer → Table-row
 a ⇒ b = record { asked = a; said = b }
 
 -- the same with the body in quotes; and a comment that is closed

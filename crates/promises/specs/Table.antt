@@ -2,10 +2,10 @@
 use mathlib.Core.List.{List, [], _∷_, map}
 use mathlib.Core.Path.{_≡_}
 use Rattle.position.specs.Place.{place}
-use Rattle.promises.specs.Rows.{Row, _⇒_, closes, refused, gives, givesOpen, givesClosed, afterHash, resumedAfter, ordinary, limited, inBackticks, commentFrom, body, written}
+use Rattle.promises.specs.Rows.{Table-row, _⇒_, closes, refused, gives, givesOpen, givesClosed, afterHash, resumedAfter, ordinary, limited, inBackticks, commentFrom, body, written}
 
 -- the examples, in the document's order
-abbrev pub table : List Row
+abbrev pub table : List Table-row
 table =
     -- (P) After `#`, `"a"b"#;` gives `a"b`, 6 characters used.
     (afterHash "\"a\"b\"#;" ⇒ gives "a\"b" 6 (place 1 7))

@@ -3,7 +3,7 @@ use Prim.Native.Nat.{ℕ, suc, _≤_, _<_, max}
 use mathlib.Core.List.{List, [], _∷_, _++_}
 use mathlib.Core.Path.{_≡_}
 use lib.Dec.{eqb}
-use lib.ListN.{length, replicate}
+use lib.ListN.{replicate}
 use Rattle.basis.specs.Types.{Text, Bytes}
 use Rattle.basis.specs.Pick.{pick}
 use Rattle.classes.specs.Marks.{quote, hash}

@@ -1,15 +1,14 @@
 -- What a run has left when it is over, in the words of its contract. Assumes nothing.
-use Prim.Native.Nat.{ℕ, zero, suc, _+_, _*_, _/_, _≤_, _<_}
+use Prim.Native.Nat.{ℕ, zero, suc, _≤_, _<_}
 use native.Mathlib.Omega.{arith}
 use native.Mathlib.Nat.{zero-add}
 use mathlib.Core.List.{List}
 use mathlib.Core.Path.{_≡_, refl, sym, ap, _∙_}
-use lib.ListN.{length, getD, replicate, set, length-set}
-use lib.Seq.{sets}
+use lib.ListN.{length, getD, replicate}
 use borrow.Author.Tests.{eq-eqb, ne-eqb}
 use Rattle.basis.specs.Store.{over}
 use Rattle.basis.proofs.Stores.{sets-front}
-use Rattle.position.specs.Place.{start, lineNumber, columnNumber}
+use Rattle.position.specs.Place.{start}
 use Rattle.fault.specs.Faults.{fault}
 use Rattle.door.specs.RunDoor.{refusesOf}
 use Rattle.door.proofs.run.Doors.{too-long}
@@ -17,16 +16,15 @@ use Rattle.reading.specs.Reading.{Left, entries, literalBytes, nothingMore}
 use Rattle.reading.specs.CutRun.{cutRun}
 use Rattle.reading.specs.declared.Bounds.{Bounds}
 use Rattle.script.specs.Rules.{Rules}
-use Rattle.entry.specs.Entries.{numbersOf, laidOut}
+use Rattle.entry.specs.Entries.{laidOut}
 use Rattle.entry.specs.declared.Entry.{Entry}
 use Rattle.reading.specs.declared.Ending.{Ending}
 use Rattle.reading.specs.declared.Ending.the-variants.{Stop}
 use Rattle.reading.proofs.Fits.{cut-fits}
-use Rattle.entry.proofs.Layouts.{laid-length}
 use Rattle.script.specs.Script.{scriptOf}
 use Rattle.script.specs.States.{begunAt, begun}
 use Rattle.turn.proofs.Makes.{Stands, left}
-use Rattle.run.specs.Run.{runReading, runOf, ranOf, Called, called, holds}
+use Rattle.run.specs.Run.{runReading, runOf, ranOf, called, holds}
 use Rattle.run.proofs.Finishes.{Finished, finish, Running}
 
 -- ---- before the first turn

@@ -10,7 +10,7 @@ use lib.ListN.{length}
 use borrow.Author.Tests.{eqb-true, eqb-false}
 use Rattle.position.proofs.Small.{start-small}
 use Rattle.fault.proofs.Small.{fault-tells}
-use Rattle.reading.specs.Reading.{Left, entries, literalBytes}
+use Rattle.reading.specs.Reading.{Left, entries}
 use Rattle.reading.specs.CutRun.{cutRun}
 use Rattle.reading.specs.declared.Bounds.{Bounds}
 use Rattle.script.specs.Rules.{Rules}

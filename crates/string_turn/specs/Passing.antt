@@ -10,7 +10,7 @@ use Rattle.position.specs.declared.Position.{Position}
 use Rattle.position.specs.Place.{orElse, advanced, advancedBy, lined}
 use Rattle.utf8.specs.Table.{lookAt}
 use Rattle.utf8.specs.declared.Look.the-variants.{Char}
-use Rattle.chars.specs.Stretch.{Stretch, Other}
+use Rattle.chars.specs.Stretch.{Stretch-of, Other}
 use Rattle.classes.specs.Marks.{lf, cr, dollar, backslash, backtick, leftBrace}
 use Rattle.string_turn.specs.Take.{scanning, nextIs}
 use Rattle.string_turn.specs.declared.take.Pending.the-variants.{Empty}
@@ -47,6 +47,6 @@ firstBehind u = orElse (u .first) (advanced (u .place))
 -- nothing was passed; or plain characters; or, in text, one that is only added; or one thing and then another
 pub data StringPasses (t : List ℕ) (q : ℕ) : Stood → Stood → Type 0 where
   none : {u : Stood} → StringPasses t q u u
-  some : {u : Stood} {k b : ℕ} → Stretch t (Plain q) (u .at) k b → (k ≡ 0 → ⊥) → StringPasses t q u (stood b (advancedBy k (u .place)) (firstBehind u))
+  some : {u : Stood} {k b : ℕ} → Stretch-of t (Plain q) (u .at) k b → (k ≡ 0 → ⊥) → StringPasses t q u (stood b (advancedBy k (u .place)) (firstBehind u))
   one : {u : Stood} {c : ℕ} → q ≡ backtick → lookAt t (u .at) ≡ Char c 1 → Added t (u .at + 1) c → StringPasses t q u (stood (u .at + 1) (placeBehind c (u .place)) (firstBehind u))
   then : {u v r : Stood} → StringPasses t q u v → StringPasses t q v r → StringPasses t q u r

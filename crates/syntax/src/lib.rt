@@ -8,13 +8,13 @@ ghost use Rattle.syntax.specs.Syntax.{writtenAs, literalSyntaxOf};
 use token::tokens::*;
 
 // A token's text, in the last of eight bytes, and where it starts there.
-struct Text {
+struct Spelling {
     bytes: [u8; 8],
     at: usize,
 }
 
 // The text of a token, empty for none: the bytes of its number, the last one first.
-fn text_of(token: u8) -> Text
+fn text_of(token: u8) -> Spelling
     ensures { λ r. ⌜ (r .at ≤ 8) × (length (r .bytes) ≡ 8) × (drop (r .at) (r .bytes) ≡ textIn keywords token) ⌝ }
 {
     let mut v = token::word_table::spelt(token);
@@ -25,7 +25,7 @@ fn text_of(token: u8) -> Text
         bytes[at] = (v % 256) as u8;
         v = v / 256;
     }
-    Text { bytes, at }
+    Spelling { bytes, at }
 }
 
 // The token that a token is written as.

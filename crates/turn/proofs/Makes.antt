@@ -16,7 +16,6 @@ use Rattle.literal.specs.Trace.{Trace, bytes}
 use Rattle.literal.specs.declared.Scanned.{Scanned}
 use Rattle.literal.specs.declared.Scanned.the-variants.{Accepted, Refused}
 use Rattle.literal.proofs.Limits.{accepted-whole}
-use Rattle.chars.specs.declared.cursor.Cursor.{Cursor}
 use Rattle.reading.specs.Reading.{Token, Left, keptPart, nothingMore, more}
 use Rattle.entry.specs.Entries.{entry}
 use Rattle.literal.specs.Answers.{full}
@@ -29,7 +28,7 @@ use Rattle.script.specs.Script.{scriptFrom}
 use Rattle.script.specs.States.{Fine}
 use Rattle.script.specs.declared.State.{State}
 use Rattle.script.proofs.Ahead.{Ahead, Takes, step-ahead}
-use Rattle.turn.specs.Turns.{listedWithin, onScanned, stepNext, stepState, stepBytes, Went, turned, turnOf, literalsThen, literalsBehind}
+use Rattle.turn.specs.Turns.{onScanned, stepNext, stepState, stepBytes, Went, turned, turnOf, literalsThen, literalsBehind}
 use Rattle.turn.specs.declared.Next.{Next}
 use Rattle.turn.specs.declared.Next.the-variants.{On, Listed, Over}
 use Rattle.turn.proofs.Cuts.{noteValues, stepValues, Comes, turn-comes}

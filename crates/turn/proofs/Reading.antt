@@ -3,7 +3,6 @@ use Prim.Native.Nat.{ℕ, _-_, _≤_, _<_}
 use mathlib.Core.Bool.{Bool, true, false}
 use mathlib.Core.List.{List}
 use mathlib.Core.Path.{_≡_, refl, ap, _∙_}
-use lib.Dec.{ltb}
 use lib.ListN.{length}
 use lib.Seq.{sets}
 use borrow.Author.Tests.{lt-ltb, le-ltb}
@@ -23,7 +22,7 @@ use Rattle.reading.specs.CutRun.{scanned, cutRun}
 use Rattle.reading.specs.declared.Bounds.{Bounds}
 use Rattle.reading.specs.declared.Ending.the-variants.{Stop}
 use Rattle.script.specs.Rules.{Rules}
-use Rattle.script.specs.States.{interpolating, behind, behindOf}
+use Rattle.script.specs.States.{behind, behindOf}
 use Rattle.script.specs.Steps.{Step, startOf, literalTrace, verdictOf, listedOf, onVerdict, onEnd, literalStep}
 use Rattle.script.specs.declared.State.{State}
 use Rattle.script.specs.declared.Verdict.{Verdict}

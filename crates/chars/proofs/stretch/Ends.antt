@@ -63,7 +63,7 @@ char-is e = cc
 no-char {ℓ} : {A : Type ℓ} {d v : ℕ} → look.End ≡ look.Char d v → A
 no-char e = absurd (let z : _≡_ {A = ℕ} 0 1 = cc in omega arith)
 
-module _ (what : Stretch) (t : List ℕ) {a k b : ℕ} (p : stretch.Stretch t (Goes what) a k b) where
+module _ (what : Stretch) (t : List ℕ) {a k b : ℕ} (p : stretch.Stretch-of t (Goes what) a k b) where
   pub ends-there : lookAt t b ≡ look.End → Ends what t a k b
   ends-there e = record { passed = p; stops = λ c w f. no-char (sym e ∙ f) }
 
@@ -77,7 +77,7 @@ module _ (t : List ℕ) (at : ℕ) (h : at < length t) where
   word-byte y = ⊎-elim (λ g. sym (look-ascii t at h 1 g refl)) (λ g. not-both y (word-high (getD t at 0) g)) (split (getD t at 0) 0x80)
 
   -- any other begins no character that it goes on with
-  pub word-stops : {k a : ℕ} → goesOn Word (getD t at 0) ≡ false → stretch.Stretch t (Goes Word) a k at → Ends Word t a k at
+  pub word-stops : {k a : ℕ} → goesOn Word (getD t at 0) ≡ false → stretch.Stretch-of t (Goes Word) a k at → Ends Word t a k at
   word-stops n p = record { passed = p; stops = λ c w f. ⊎-elim (λ g. low c w g f) (λ g. word-high c (at-high t at g f)) (split (getD t at 0) 0x80) }
     where
       low : (c w : ℕ) → getD t at 0 < 0x80 → lookAt t at ≡ look.Char c w → goesOn Word c ≡ false
@@ -91,7 +91,7 @@ module _ (what : Stretch) (t : List ℕ) (s : Cursor) where
   plain : (k b c w : ℕ) → lookAt t b ≡ look.Char c w → Goes what c → Plain (stretchRule what) t after (λ b r. r) k b w
   plain k b c w e y = plain-turn (stretchRule what) t after (λ b r. r) e (rw (y, advanced-by-more k (s .place))) (λ r. refl)
 
-  passed : {k b : ℕ} → stretch.Stretch t (Goes what) (s .at) k b → stretchEnd what t s ≡ runAt (stretchRule what) t b (after k)
+  passed : {k b : ℕ} → stretch.Stretch-of t (Goes what) (s .at) k b → stretchEnd what t s ≡ runAt (stretchRule what) t b (after k)
   unfolding stretchEnd
   passed {k} {b} p =
       ap (runAt (stretchRule what) t (s .at)) (sym (advanced-by-none (s .place)))

@@ -17,7 +17,7 @@ use Rattle.utf8.specs.declared.Look.the-variants.{Char, End}
 use Rattle.utf8.proofs.Laws.{at-width, chars-char}
 use Rattle.chars.specs.Cursors.{cursor, eatNextOf}
 use Rattle.chars.specs.Scan.{follows, widths, runAt, Move, on, over}
-use Rattle.chars.specs.Stretch.{Stretch, Other}
+use Rattle.chars.specs.Stretch.{Stretch-of, Other}
 use Rattle.chars.specs.declared.cursor.Cursor.{Cursor}
 use Rattle.chars.specs.declared.cursor.Taken.the-variants as taken
 use Rattle.chars.proofs.Cursors.{Took, ate-took, ate-ended}
@@ -26,9 +26,9 @@ use Rattle.chars.proofs.Scans.{move-on, move-over, at-end, one-on, two-on, is-o
 use Rattle.chars.proofs.Stretches.{is-other, stretched, stretch-low, stretch-high}
 use Rattle.chars.proofs.Stretches as stretches
 use Rattle.comment.specs.Block.{commentAt, Inside, inside, commentTurn, commentRule, commentOf}
-use Rattle.comment.specs.Step.{eatIfOf, moveOf, asStep, LevelFits, TurnFits}
+use Rattle.comment.specs.Step.{eatIfOf, moveOf, asLed, LevelFits, TurnFits}
 use Rattle.comment.specs.declared.scan.Comment.{Comment}
-use Rattle.comment.specs.declared.scan.Step.the-variants.{On, Over}
+use Rattle.comment.specs.declared.scan.Led.the-variants.{On, Over}
 
 -- ---- characters taken
 -- a cursor behind a character is further on, and within the text
@@ -85,9 +85,9 @@ module _ (t : List ℕ) (level : ℕ) (from : Cursor) where
   abbrev here : Inside
   here = inside level (from .place)
 
-  pub ends : eatNextOf t from ≡ taken.End → Over level from ≡ asStep (moveOf t level from)
+  pub ends : eatNextOf t from ≡ taken.End → Over level from ≡ asLed (moveOf t level from)
   unfolding moveOf
-  ends e = sym (ap asStep (at-end commentRule t (from .at) here (ate-ended t from e)))
+  ends e = sym (ap asLed (at-end commentRule t (from .at) here (ate-ended t from e)))
 
   module _ {c : ℕ} {next : Cursor} (e : eatNextOf t from ≡ taken.Char c next) where
     abbrev took : Took t (from .at) (advanced (from .place)) c next
@@ -104,40 +104,40 @@ module _ (t : List ℕ) (level : ℕ) (from : Cursor) where
         let k = if-took t next d f in
         rw (← k .1, ← ap (λ (x : Cursor). x .at) (took .stands), ← ap (λ (x : Cursor). x .place) (took .stands)) (ate-took t next (k .0))
 
-    pub slash : c ≡ 0x2F → eatIfOf t next 0x2A ≡ taken.End → On level next ≡ asStep (moveOf t level from)
+    pub slash : c ≡ 0x2F → eatIfOf t next 0x2A ≡ taken.End → On level next ≡ asLed (moveOf t level from)
     unfolding moveOf commentTurn
-    slash h f = rw (took .stands) (sym (ap asStep (one-on commentRule t (from .at) here (took .found) (rw (eq-eqb c 0x2F h, next-not 0x2A f, ne-eqb c 0x2A (λ q. omega arith), ne-eqb c 0x0A (λ q. omega arith))))))
+    slash h f = rw (took .stands) (sym (ap asLed (one-on commentRule t (from .at) here (took .found) (rw (eq-eqb c 0x2F h, next-not 0x2A f, ne-eqb c 0x2A (λ q. omega arith), ne-eqb c 0x0A (λ q. omega arith))))))
 
-    pub opens : c ≡ 0x2F → {d : ℕ} {after : Cursor} → eatIfOf t next 0x2A ≡ taken.Char d after → On (level + 1) after ≡ asStep (moveOf t level from)
+    pub opens : c ≡ 0x2F → {d : ℕ} {after : Cursor} → eatIfOf t next 0x2A ≡ taken.Char d after → On (level + 1) after ≡ asLed (moveOf t level from)
     unfolding moveOf commentTurn
     opens h f =
         let k = pair 0x2A f in
-        rw (k .stands) (sym (ap asStep (two-on commentRule t (from .at) here (took .found) (k .found) (rw (eq-eqb c 0x2F h, followed t _ 0x2A (k .found) refl)))))
+        rw (k .stands) (sym (ap asLed (two-on commentRule t (from .at) here (took .found) (k .found) (rw (eq-eqb c 0x2F h, followed t _ 0x2A (k .found) refl)))))
 
-    pub star : c ≡ 0x2A → eatIfOf t next 0x2F ≡ taken.End → On level next ≡ asStep (moveOf t level from)
+    pub star : c ≡ 0x2A → eatIfOf t next 0x2F ≡ taken.End → On level next ≡ asLed (moveOf t level from)
     unfolding moveOf commentTurn
-    star h f = rw (took .stands) (sym (ap asStep (one-on commentRule t (from .at) here (took .found) (rw (ne-eqb c 0x2F (λ q. omega arith), eq-eqb c 0x2A h, next-not 0x2F f, ne-eqb c 0x0A (λ q. omega arith))))))
+    star h f = rw (took .stands) (sym (ap asLed (one-on commentRule t (from .at) here (took .found) (rw (ne-eqb c 0x2F (λ q. omega arith), eq-eqb c 0x2A h, next-not 0x2F f, ne-eqb c 0x0A (λ q. omega arith))))))
 
     module _ (h : c ≡ 0x2A) {d : ℕ} {after : Cursor} (f : eatIfOf t next 0x2F ≡ taken.Char d after) where
-      pub closes-last : level ≡ 1 → Over 0 after ≡ asStep (moveOf t level from)
+      pub closes-last : level ≡ 1 → Over 0 after ≡ asLed (moveOf t level from)
       unfolding moveOf commentTurn widths
       closes-last n =
           let k = pair 0x2F f in
-          rw (k .stands) (sym (ap asStep (is-over commentRule t (from .at) here (took .found) (rw (ne-eqb c 0x2F (λ q. omega arith), eq-eqb c 0x2A h, followed t _ 0x2F (k .found) refl, eq-eqb level 1 n, chars-char t _ (k .found), add-zero)))))
+          rw (k .stands) (sym (ap asLed (is-over commentRule t (from .at) here (took .found) (rw (ne-eqb c 0x2F (λ q. omega arith), eq-eqb c 0x2A h, followed t _ 0x2F (k .found) refl, eq-eqb level 1 n, chars-char t _ (k .found), add-zero)))))
 
-      pub closes : (level ≡ 1 → ⊥) → On (level - 1) after ≡ asStep (moveOf t level from)
+      pub closes : (level ≡ 1 → ⊥) → On (level - 1) after ≡ asLed (moveOf t level from)
       unfolding moveOf commentTurn
       closes n =
           let k = pair 0x2F f in
-          rw (k .stands) (sym (ap asStep (two-on commentRule t (from .at) here (took .found) (k .found) (rw (ne-eqb c 0x2F (λ q. omega arith), eq-eqb c 0x2A h, followed t _ 0x2F (k .found) refl, ne-eqb level 1 n)))))
+          rw (k .stands) (sym (ap asLed (two-on commentRule t (from .at) here (took .found) (k .found) (rw (ne-eqb c 0x2F (λ q. omega arith), eq-eqb c 0x2A h, followed t _ 0x2F (k .found) refl, ne-eqb level 1 n)))))
 
-    pub new-line : c ≡ 0x0A → On level (cursor (next .at) (lined (next .place))) ≡ asStep (moveOf t level from)
+    pub new-line : c ≡ 0x0A → On level (cursor (next .at) (lined (next .place))) ≡ asLed (moveOf t level from)
     unfolding moveOf commentTurn
-    new-line h = rw (took .stands) (sym (ap asStep (one-on commentRule t (from .at) here (took .found) (rw (ne-eqb c 0x2F (λ q. omega arith), ne-eqb c 0x2A (λ q. omega arith), eq-eqb c 0x0A h)))))
+    new-line h = rw (took .stands) (sym (ap asLed (one-on commentRule t (from .at) here (took .found) (rw (ne-eqb c 0x2F (λ q. omega arith), ne-eqb c 0x2A (λ q. omega arith), eq-eqb c 0x0A h)))))
 
-    pub plain : (c ≡ 0x2F → ⊥) → (c ≡ 0x2A → ⊥) → (c ≡ 0x0A → ⊥) → On level next ≡ asStep (moveOf t level from)
+    pub plain : (c ≡ 0x2F → ⊥) → (c ≡ 0x2A → ⊥) → (c ≡ 0x0A → ⊥) → On level next ≡ asLed (moveOf t level from)
     unfolding moveOf commentTurn
-    plain n m l = rw (took .stands) (sym (ap asStep (one-on commentRule t (from .at) here (took .found) (rw (ne-eqb c 0x2F n, ne-eqb c 0x2A m, ne-eqb c 0x0A l)))))
+    plain n m l = rw (took .stands) (sym (ap asLed (one-on commentRule t (from .at) here (took .found) (rw (ne-eqb c 0x2F n, ne-eqb c 0x2A m, ne-eqb c 0x0A l)))))
 
 -- ---- the loop: a turn that goes on leaves the answer as it is, and one that is over gives it
 on-is : {n m : ℕ} {r s : Cursor} → On n s ≡ On m r → commentAt n s ≡ commentAt m r
@@ -150,19 +150,19 @@ apart {ℓ} : {A : Type ℓ} {n m : ℕ} {r s : Cursor} → On n s ≡ Over m r 
 apart e = absurd (let z : _≡_ {A = ℕ} 0 1 = cc in omega arith)
 
 module _ (t : List ℕ) (level : ℕ) (from : Cursor) (m : ℕ) (next : Cursor) where
-  pub goes-on : On m next ≡ asStep (moveOf t level from) → commentOf t from level ≡ commentOf t next m
+  pub goes-on : On m next ≡ asLed (moveOf t level from) → commentOf t from level ≡ commentOf t next m
   unfolding moveOf commentOf
   goes-on e = go (moveOf t level from) refl e
     where
-      go : (x : Move Inside (Unit {0}) Comment) → moveOf t level from ≡ x → On m next ≡ asStep x → commentOf t from level ≡ commentOf t next m
+      go : (x : Move Inside (Unit {0}) Comment) → moveOf t level from ≡ x → On m next ≡ asLed x → commentOf t from level ≡ commentOf t next m
       go (on n at o) q h = move-on commentRule t (from .at) (here t level from) q ∙ ap (λ (x : Comment). commentOf t (x .cursor) (x .level)) (on-is (sym h))
       go (over x) q h = apart h
 
-  pub is-done : Over m next ≡ asStep (moveOf t level from) → commentOf t from level ≡ commentAt m next
+  pub is-done : Over m next ≡ asLed (moveOf t level from) → commentOf t from level ≡ commentAt m next
   unfolding moveOf commentOf
   is-done e = go (moveOf t level from) refl e
     where
-      go : (x : Move Inside (Unit {0}) Comment) → moveOf t level from ≡ x → Over m next ≡ asStep x → commentOf t from level ≡ commentAt m next
+      go : (x : Move Inside (Unit {0}) Comment) → moveOf t level from ≡ x → Over m next ≡ asLed x → commentOf t from level ≡ commentAt m next
       go (on n at o) q h = apart (sym h)
       go (over x) q h = move-over commentRule t (from .at) (here t level from) q ∙ over-is (sym h)
 
@@ -180,7 +180,7 @@ module _ (t : List ℕ) (level : ℕ) (from : Cursor) where
       let n = is-other 0x2F 0x2A 0x0A 0x0A 0x0A c y in
       stretches.plain-turn commentRule t after (λ b r. r) e (rw (n .0, n .1, n .2, advanced-by-more k (from .place))) (λ r. refl)
 
-  module _ {k b : ℕ} (p : Stretch t Plain (from .at) k b) {q : Position} (m : q ≡ advancedBy k (from .place)) where
+  module _ {k b : ℕ} (p : Stretch-of t Plain (from .at) k b) {q : Position} (m : q ≡ advancedBy k (from .place)) where
     pub passes : commentOf t from level ≡ commentOf t (cursor b q) level
     unfolding commentOf
     passes =

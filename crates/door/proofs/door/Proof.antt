@@ -1,5 +1,5 @@
 -- The questions of the definition, in its order; where characters begin is asked of one byte.
-use mathlib.Core.Path.{sym, ap, _∙_}
+use mathlib.Core.Path.{sym, _∙_}
 use borrow.Author.Needs.{needs}
 use Rattle.door.proofs.Doors.{text-first, let-in, not-there}
 use Rattle.door.proofs.door.Statement.{statement}

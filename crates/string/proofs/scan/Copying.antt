@@ -19,7 +19,7 @@ use Rattle.utf8.specs.declared.Look.the-variants.{Char}
 use Rattle.utf8.proofs.Encodes.{encoded-scalar}
 use Rattle.utf8.proofs.Unicode.{code-scalar, look-scalar-bytes}
 use Rattle.white.specs.White.{isWhite}
-use Rattle.chars.specs.Stretch.{Stretch}
+use Rattle.chars.specs.Stretch.{Stretch-of}
 use Rattle.chars.specs.declared.cursor.Cursor.{Cursor}
 use Rattle.chars.proofs.Stretches as stretches
 use Rattle.chars.proofs.Stretches.{stretched}
@@ -35,7 +35,7 @@ use Rattle.string_turn.proofs.take.Passing.{passes-low, passes-within}
 use Rattle.string.specs.Reading.{stringRule, rest}
 use Rattle.string.proofs.Passing.{one-after, one-added, after-none, after-some}
 use Rattle.string.proofs.Passing as passing
-use Rattle.string.specs.Standing.{Written}
+use Rattle.string.specs.Standing.{Written-so-far}
 use Rattle.string.proofs.scan.Writing.{written-on}
 
 -- ---- parts of a text
@@ -93,7 +93,7 @@ module _ (t : List ℕ) (q : ℕ) (start : Position) (at : ℕ) where
     one-passed k b c w h e y =
         ap (view b) (one-after isWhite t q start p f k b e y) ∙ read b c _ _ ∙ ap (λ (l : List ℕ). l ++ bytes (rest t q start (b + w) (after′ (k + 1)))) (part-char t at b h e)
 
-    all-passed : {k b : ℕ} → Stretch t (Plain q) at k b → bytes (rest t q start at (scanning p f Empty 0)) ≡ part t at b ++ bytes (rest t q start b (after′ k))
+    all-passed : {k b : ℕ} → Stretch-of t (Plain q) at k b → bytes (rest t q start at (scanning p f Empty 0)) ≡ part t at b ++ bytes (rest t q start b (after′ k))
     all-passed {k} {b} x =
         ap (λ (l : List ℕ). l ++ bytes (rest t q start at (scanning p f Empty 0))) (sym (part-none t at at (omega arith)))
         ∙ ap (λ (s : Scanning). view at (rest t q start at s)) (sym (after-none isWhite t q start p f))
@@ -125,6 +125,6 @@ module _ (t : List ℕ) (q : ℕ) (start : Position) where
       ∙ ap (λ (l : List ℕ). l ++ bytes (rest t q start (r .at) (stoodState r))) (part-on t (u .at) (v .at) (r .at) (passes-low x) (passes-low y))
 
 -- ---- the loop
-module _ (t : List ℕ) (q : ℕ) (from : Cursor) (old out : List ℕ) (u : Stood) (n : ℕ) (i : Written t q from old out (u .at) (stoodState u) n) where
-  pub written-passed : {r : Stood} → StringPasses t q u r → {l : List ℕ} → l ≡ stored out n (part t (u .at) (r .at)) → Written t q from old l (r .at) (stoodState r) (n + (r .at - u .at))
+module _ (t : List ℕ) (q : ℕ) (from : Cursor) (old out : List ℕ) (u : Stood) (n : ℕ) (i : Written-so-far t q from old out (u .at) (stoodState u) n) where
+  pub written-passed : {r : Stood} → StringPasses t q u r → {l : List ℕ} → l ≡ stored out n (part t (u .at) (r .at)) → Written-so-far t q from old l (r .at) (stoodState r) (n + (r .at - u .at))
   written-passed {r} x v = written-on t q from old out (u .at) (stoodState u) n i (part t (u .at) (r .at)) (passed-bytes t q (from .place) x) (rw (part-size t (u .at) (r .at) (passes-within x))) v

@@ -14,7 +14,7 @@ use Rattle.utf8.proofs.Encodes.{encoded-scalar}
 use Rattle.utf8.proofs.Laws.{at-width}
 use Rattle.utf8.proofs.Unicode.{size-width, code-scalar}
 use Rattle.white.specs.White.{isWhite}
-use Rattle.chars.specs.Stretch.{Stretch}
+use Rattle.chars.specs.Stretch.{Stretch-of}
 use Rattle.chars.specs.declared.cursor.Cursor.{Cursor}
 use Rattle.chars.proofs.Stretches as stretches
 use Rattle.chars.proofs.Stretches.{stretched, stretch-low}
@@ -49,7 +49,7 @@ module _ (t : List ℕ) (from : Cursor) (q limit room most at n : ℕ) (p f : Po
       ap (view b) (one-after isWhite t q (from .place) p f k b e y)
       ∙ rw z (tests-within full limit room n most g o (b - at) w (at-width t b e .0) (omega arith) (encoded c) (same-size t b e) _ _)
 
-  all-passed : {k b : ℕ} → Stretch t (Plain q) at k b → b ≤ at + most
+  all-passed : {k b : ℕ} → Stretch-of t (Plain q) at k b → b ≤ at + most
       → cut full limit room n (rest t q (from .place) at (scanning p f Empty 0)) ≡ cut full limit room (n + (b - at)) (rest t q (from .place) b (after isWhite t q (from .place) p f k))
   all-passed {k} {b} x l =
       let z : n ≡ n + (at - at) = omega arith in

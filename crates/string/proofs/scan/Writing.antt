@@ -20,7 +20,7 @@ use Rattle.string_turn.specs.declared.take.Scanning.{Scanning}
 use Rattle.string.specs.Reading.{stringBegun, stringReading, rest}
 use Rattle.string.specs.Limited.{LimitAnswers, GoesOn, Tells}
 use Rattle.string.specs.Kept.{Body-kept}
-use Rattle.string.specs.Standing.{Written}
+use Rattle.string.specs.Standing.{Written-so-far}
 use Rattle.string.specs.declared.scan.LimitedTurn.{LimitedTurn}
 use Rattle.string.specs.declared.scan.LimitedTurn.the-variants.{On, Over}
 
@@ -28,14 +28,14 @@ none-left : (l : List ℕ) → length l ≡ 0 → l ≡ []
 none-left [] e = refl
 none-left (x ∷ l) e = absurd (omega arith)
 
-pub written-start : (t : List ℕ) (q : ℕ) (from : Cursor) (out : List ℕ) {s : Scanning} → s ≡ stringBegun (from .place) → Written t q from out out (from .at) s 0
+pub written-start : (t : List ℕ) (q : ℕ) (from : Cursor) (out : List ℕ) {s : Scanning} → s ≡ stringBegun (from .place) → Written-so-far t q from out out (from .at) s 0
 unfolding stringReading
 written-start t q from out e = record { same = refl; count = rw e (zero-add _); is = λ h. rw e }
 
-module _ (t : List ℕ) (q : ℕ) (from : Cursor) (old out : List ℕ) (at : ℕ) (s : Scanning) (n : ℕ) (i : Written t q from old out at s n) where
+module _ (t : List ℕ) (q : ℕ) (from : Cursor) (old out : List ℕ) (at : ℕ) (s : Scanning) (n : ℕ) (i : Written-so-far t q from old out at s n) where
   -- some bytes were stored, and the rest is left
   pub written-on : {next : ℕ} {r : Scanning} (bs : List ℕ) → bytes (rest t q (from .place) at s) ≡ bs ++ bytes (rest t q (from .place) next r)
-      → {m : ℕ} {l : List ℕ} → m ≡ n + length bs → l ≡ stored out n bs → Written t q from old l next r m
+      → {m : ℕ} {l : List ℕ} → m ≡ n + length bs → l ≡ stored out n bs → Written-so-far t q from old l next r m
   written-on {next} {r} bs e {m} {l} u v =
       let b : List ℕ = bytes (rest t q (from .place) next r) in
       let k : length (bytes (rest t q (from .place) at s)) ≡ length bs + length b = rw e (length-append bs b) in
@@ -49,7 +49,7 @@ module _ (t : List ℕ) (q : ℕ) (from : Cursor) (old out : List ℕ) (at : ℕ
 
   -- a turn that goes on
   module _ (limit : ℕ) {x : LimitedTurn} (g : Tells limit n t q (from .place) at s x) where
-    pub written-more : {d next : ℕ} {r : Scanning} → x ≡ On d next r → {m : ℕ} → m ≡ length (encoded d) → {l : List ℕ} → l ≡ stored out n (encoded d) → Written t q from old l next r (n + m)
+    pub written-more : {d next : ℕ} {r : Scanning} → x ≡ On d next r → {m : ℕ} → m ≡ length (encoded d) → {l : List ℕ} → l ≡ stored out n (encoded d) → Written-so-far t q from old l next r (n + m)
     written-more {d} {next} {r} e z v =
         let w : GoesOn limit n t q (from .place) at s d next r = rw e at g in
         written-on (encoded d) (w .body) (rw z) v

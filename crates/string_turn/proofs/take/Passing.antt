@@ -15,7 +15,7 @@ use Rattle.position.specs.Place.{orElse, advanced, advancedBy}
 use Rattle.utf8.proofs.Bits.{look-ascii}
 use Rattle.utf8.proofs.Laws.{at-width}
 use Rattle.chars.specs.Stretch as stretch
-use Rattle.chars.specs.Stretch.{Stretch}
+use Rattle.chars.specs.Stretch.{Stretch-of}
 use Rattle.chars.proofs.Stretches.{stretch-low, stretch-within, one-more}
 use Rattle.classes.specs.Marks.{lf, cr, dollar, backslash, backtick, leftBrace}
 use Rattle.string_turn.specs.Kinds.{isVerbatim}
@@ -39,7 +39,7 @@ module _ {t : List ℕ} {q : ℕ} where
       ⊎-elim (λ l. passes-within y l) (λ l. let g = passes-within x (omega (arith, l, h)) in omega (arith, g, l)) (split (v .at) (r .at))
 
 -- ---- a stretch
-pub passed : (t : List ℕ) (q : ℕ) (from : Stood) {k b : ℕ} → Stretch t (Plain q) (from .at) k b → (k ≡ 0 → ⊥)
+pub passed : (t : List ℕ) (q : ℕ) (from : Stood) {k b : ℕ} → Stretch-of t (Plain q) (from .at) k b → (k ≡ 0 → ⊥)
     → {p u f : Position} → p ≡ advancedBy k (from .place) → u ≡ advanced (from .place) → f ≡ orElse (from .first) u → StringPasses t q from (stood b p f)
 passed t q from x n g m h = rw (g, h, m) (some x n)
 

@@ -17,7 +17,6 @@ use Rattle.script.specs.Steps.{onFound, stepOf}
 use Rattle.script.specs.Skips.{skipped}
 use Rattle.script.specs.declared.State.{State}
 use Rattle.script.proofs.Skips.{skipped-due, skipped-on}
-use Rattle.turn.specs.Turns.{Turns}
 use Rattle.turn.proofs.Stepping.{part-kept, white-turn, white-kept, wrong-turn, wrong-kept, end-kept, step-due, step-found, found-further}
 use Rattle.turn.proofs.turn.Statement.{statement}
 use Rattle.turn.proofs.turn.Tie as tie

@@ -6,13 +6,13 @@ use mathlib.Core.Path.{_≡_, refl, ap, sym, _∙_}
 use lib.ListN.{length, getD}
 use Rattle.utf8.specs.Table.{lookAt}
 use Rattle.utf8.proofs.Laws.{at-width}
-use Rattle.chars.specs.Stretch.{Stretch, none, more, Next-char, High}
+use Rattle.chars.specs.Stretch.{Stretch-of, none, more, Next-char, High}
 use Rattle.chars.proofs.Stretches.{stretch-low}
 use Rattle.chars.proofs.passing.high.Statement.{statement}
 use Rattle.chars.proofs.passing.high.Tie as tie
 
 abbrev Inv-loop : tie.InvT-loop
-Inv-loop text from stop at₀ count₀ at count = Stretch text High from count at × (at ≤ stop) × (count ≡ 0 → at ≡ from)
+Inv-loop text from stop at₀ count₀ at count = Stretch-of text High from count at × (at ≤ stop) × (count ≡ 0 → at ≡ from)
 
 abbrev μ-loop : tie.MeasureT-loop
 μ-loop text from stop at₀ count₀ at count = stop - at

@@ -6,13 +6,13 @@ use mathlib.Core.Path.{_≡_, refl, sym, _∙_}
 use lib.ListN.{length}
 use borrow.Author.Needs.{needs}
 use Rattle.utf8.proofs.Bits.{look-ascii}
-use Rattle.chars.specs.Stretch.{Stretch, High, Other}
+use Rattle.chars.specs.Stretch.{Stretch-of, High, Other}
 use Rattle.chars.proofs.Stretches.{stretch-low, one-more, no-more, then-more, high-other}
 use Rattle.chars.proofs.passing.pass.Statement.{statement}
 use Rattle.chars.proofs.passing.pass.Tie as tie
 
 abbrev Inv-loop : tie.InvT-loop
-Inv-loop text from most a b d e f stop at₀ extra₀ at extra = Stretch text (Other a b d e f) from (at - from - extra) at × (from + extra ≤ at) × (at ≤ stop)
+Inv-loop text from most a b d e f stop at₀ extra₀ at extra = Stretch-of text (Other a b d e f) from (at - from - extra) at × (from + extra ≤ at) × (at ≤ stop)
 
 abbrev μ-loop : tie.MeasureT-loop
 μ-loop text from most a b d e f stop at₀ extra₀ at extra = stop - at
@@ -36,7 +36,7 @@ module _ (k : tie.At-loop Inv-loop μ-loop) where
   inside h = omega (arith, k .before .last .ensures .2 (omega (arith, h, k .loop .inv)), h)
 
   -- the answer
-  gives : Stretch text (Other (begin .args .a) (begin .args .b) (begin .args .d) (begin .args .e) (begin .args .f)) (begin .args .from) (at - begin .args .from - k .loop .extra) at × (at ≤ begin .args .from + begin .args .most)
+  gives : Stretch-of text (Other (begin .args .a) (begin .args .b) (begin .args .d) (begin .args .e) (begin .args .f)) (begin .args .from) (at - begin .args .from - k .loop .extra) at × (at ≤ begin .args .from + begin .args .most)
   gives = (k .loop .inv .0, omega (arith, k .loop .inv .2, k .before .last .ensures .1))
 
 -- characters of more bytes
@@ -44,7 +44,7 @@ module _ (w : tie.After-high Inv-loop μ-loop) where
   abbrev top : tie.At-loop Inv-loop μ-loop
   top = w .before .before .before .before
 
-  run : Stretch (text top) High (at top) (w .high .result .count) (w .high .result .at)
+  run : Stretch-of (text top) High (at top) (w .high .result .count) (w .high .result .at)
   run = w .high .ensures .0
 
   some : at top + w .high .result .count ≤ w .high .result .at

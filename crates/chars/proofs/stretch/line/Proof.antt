@@ -7,7 +7,7 @@ use lib.ListN.{length}
 use borrow.Author.Needs.{needs}
 use Rattle.utf8.proofs.Bits.{look-ascii}
 use Rattle.utf8.proofs.Laws.{look-past}
-use Rattle.chars.specs.Stretch.{Stretch, none, more, High}
+use Rattle.chars.specs.Stretch.{Stretch-of, none, more, High}
 use Rattle.chars.proofs.Stretches.{stretch-low, then-more}
 use Rattle.chars.specs.Passing.{Goes}
 use Rattle.chars.specs.declared.stretch.Stretch.the-variants.{Line}
@@ -16,7 +16,7 @@ use Rattle.chars.proofs.stretch.line.Statement.{statement}
 use Rattle.chars.proofs.stretch.line.Tie as tie
 
 abbrev Inv-loop : tie.InvT-loop
-Inv-loop text from at₀ count₀ at count = Stretch text (Goes Line) from count at
+Inv-loop text from at₀ count₀ at count = Stretch-of text (Goes Line) from count at
 
 abbrev μ-loop : tie.MeasureT-loop
 μ-loop text from at₀ count₀ at count = length text - at
@@ -29,7 +29,7 @@ module _ (k : tie.After-high Inv-loop μ-loop) where
   abbrev text : List ℕ
   text = top .before .before .args .text .now
 
-  run : Stretch text High (top .loop .at) (k .high .result .count) (k .high .result .at)
+  run : Stretch-of text High (top .loop .at) (k .high .result .count) (k .high .result .at)
   run = k .high .ensures .0
 
   ends : k .high .result .at ≤ length text

@@ -5,7 +5,7 @@ use mathlib.Core.Path.{_≡_}
 use lib.ListN.{length}
 use borrow.Author.Needs.{needs}
 use Rattle.utf8.proofs.Laws.{look-past}
-use Rattle.chars.specs.Stretch.{Stretch}
+use Rattle.chars.specs.Stretch.{Stretch-of}
 use Rattle.chars.proofs.Stretches.{no-more, one-more}
 use Rattle.chars.specs.Passing.{Goes}
 use Rattle.chars.specs.declared.stretch.Stretch.the-variants.{Word}
@@ -14,7 +14,7 @@ use Rattle.chars.proofs.stretch.word.Statement.{statement}
 use Rattle.chars.proofs.stretch.word.Tie as tie
 
 abbrev Inv-loop : tie.InvT-loop
-Inv-loop text from at₀ at = Stretch text (Goes Word) from (at - from) at × (from ≤ at)
+Inv-loop text from at₀ at = Stretch-of text (Goes Word) from (at - from) at × (from ≤ at)
 
 abbrev μ-loop : tie.MeasureT-loop
 μ-loop text from at₀ at = length text - at

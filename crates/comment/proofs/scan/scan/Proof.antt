@@ -10,7 +10,7 @@ use Rattle.chars.specs.declared.cursor.Cursor.{Cursor}
 use Rattle.chars.proofs.Stretches.{stretch-low}
 use Rattle.comment.specs.Block.{commentOf}
 use Rattle.comment.specs.Step.{LevelFits, TurnFits}
-use Rattle.comment.specs.declared.scan.Step.the-variants.{On}
+use Rattle.comment.specs.declared.scan.Led.the-variants.{On}
 use Rattle.comment.proofs.scan.Turns.{goes-on, is-done, passes, passed-fine}
 use Rattle.comment.proofs.scan.scan.Statement.{statement}
 use Rattle.comment.proofs.scan.scan.Tie as tie

@@ -5,7 +5,7 @@ use mathlib.Core.List.{List}
 use mathlib.Core.Path.{refl}
 use lib.ListN.{length}
 use borrow.Author.Needs.{needs}
-use Rattle.string.specs.Standing.{Measured, Written}
+use Rattle.string.specs.Standing.{Measured, Written-so-far}
 use Rattle.string.specs.declared.scan.ScanStand.{ScanStand}
 use Rattle.string.proofs.scan.Measuring.{measured-start, measured-over, measured-full, measured-less, measured-more}
 use Rattle.string.proofs.scan.Writing.{written-start, written-more, written-over, full-kept}
@@ -13,7 +13,7 @@ use Rattle.string.proofs.scan.scan.Statement.{statement}
 use Rattle.string.proofs.scan.scan.Tie as tie
 
 abbrev Inv-loop : tie.InvT-loop
-Inv-loop text from q limit room out₀ start at₀ s₀ n₀ out at s n = Measured text from q limit room at s n × Written text q from out₀ out at s n
+Inv-loop text from q limit room out₀ start at₀ s₀ n₀ out at s n = Measured text from q limit room at s n × Written-so-far text q from out₀ out at s n
 
 abbrev μ-loop : tie.MeasureT-loop
 μ-loop text from q limit room out₀ start at₀ s₀ n₀ out at s n = length text - at
@@ -35,7 +35,7 @@ module _ (k : tie.After-lead Inv-loop μ-loop) where
   stands : Measured (begin .args .text .now) (begin .args .from) (begin .args .q) (begin .args .limit) (begin .args .room) (there .at) (there .state) (there .n)
   stands = k .lead .ensures .measured (begin .args .from) refl (top .loop .inv .0)
 
-  wrote : Written (begin .args .text .now) (begin .args .q) (begin .args .from) (begin .args .out .now) memory (there .at) (there .state) (there .n)
+  wrote : Written-so-far (begin .args .text .now) (begin .args .q) (begin .args .from) (begin .args .out .now) memory (there .at) (there .state) (there .n)
   wrote = k .lead .ensures .written (begin .args .from) refl (begin .args .out .now) (top .loop .inv .1)
 
 -- and behind the turn
