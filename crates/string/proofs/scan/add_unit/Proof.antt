@@ -1,4 +1,4 @@
--- Nothing, or a unit, by its law, and perhaps a byte behind it: proofs/Leading.antt.
+-- Nothing, or a unit, by its law, and perhaps bytes behind it: proofs/Leading.antt.
 use Prim.Native.Nat.{_+_, _-_}
 use native.Mathlib.Omega.{arith}
 use mathlib.Core.Path.{sym, _∙_}
@@ -57,9 +57,9 @@ module _ (k : tie.After-struct-known3) where
 
 returns-4 : tie.Need-returns-4
 returns-4 c =
-    let byte = c .before .before in
-    let k = byte .before .before .before in
-    leads-then _ _ _ _ _ (leads k) (byte .add-byte .ensures (begin (left k) .args .start))
+    let bytes = c .before .before in
+    let k = bytes .before .before .before in
+    leads-then _ _ _ _ _ (leads k) (bytes .add-bytes .ensures (begin (left k) .args .start))
 
 pub add-unit-spec : {M : Type 1} → statement M
 add-unit-spec =
