@@ -1,0 +1,3 @@
+pub mod PlaceNumbers
+pub mod Rows
+pub mod Forms

@@ -1,0 +1,4 @@
+pub mod CommentRow
+pub mod LiteralRow
+pub mod RawScans
+pub mod StringScans

@@ -1,0 +1,3 @@
+pub mod TokenNumbers
+pub mod OperatorRow
+pub mod IdentifierRow
