@@ -4,7 +4,8 @@ use Rattle.basis.specs.Store.{fits, stored, after}
 use Rattle.chars.specs.Scan.{widths}
 use Rattle.literal.specs.Cut.{wrote}
 use Rattle.literal.proofs.Computes.{the-places, the-characters, the-readings}
-use Rattle.string_turn.proofs.Computes.{the-escapes, the-takes, the-acts}
+use Rattle.escape.proofs.Computes.{the-escapes}
+use Rattle.string_turn.proofs.Computes.{the-takes, the-acts}
 use Rattle.string.proofs.Computes.{the-string-rules, the-string-entry}
 use Rattle.raw.proofs.Computes.{the-raw-rules, the-raw-entries}
 use Rattle.lent.specs.Written.{writtenOf, leftOf}

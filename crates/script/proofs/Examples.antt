@@ -10,7 +10,8 @@ use Rattle.chars.specs.declared.cursor.Cursor.{Cursor}
 use Rattle.chars.specs.Cursors.{cursor}
 use Rattle.fault.specs.Faults.{fault}
 use Rattle.literal.proofs.Computes.{the-places, the-characters, the-readings}
-use Rattle.string_turn.proofs.Computes.{the-escapes, the-takes, the-acts}
+use Rattle.escape.proofs.Computes.{the-escapes}
+use Rattle.string_turn.proofs.Computes.{the-takes, the-acts}
 use Rattle.string.proofs.Computes.{the-string-rules}
 use Rattle.raw.proofs.Computes.{the-raw-rules}
 use Rattle.entry.specs.declared.Entry.{Entry}

@@ -16,10 +16,10 @@ use Rattle.utf8.specs.declared.Look.the-variants.{Char}
 use Rattle.chars.specs.Cursors.{cursor}
 use Rattle.chars.proofs.Cursors.{ate}
 use Rattle.classes.specs.Marks.{lf, cr, space, quote, backslash}
-use Rattle.string_turn.specs.Escapes.{noChar, escapedOf}
-use Rattle.string_turn.specs.Whole.{Whole-at, none, stands, itself}
-use Rattle.string_turn.specs.declared.escape.WholeEscape.{WholeEscape}
-use Rattle.string_turn.specs.declared.escape.Escaped.the-variants as escaped
+use Rattle.escape.specs.Escapes.{noChar, escapedOf}
+use Rattle.escape.specs.Whole.{Whole-at, none, stands, itself}
+use Rattle.escape.specs.declared.WholeEscape.{WholeEscape}
+use Rattle.escape.specs.declared.Escaped.the-variants as escaped
 use Rattle.string_turn.specs.Kinds.{isVerbatim, isContinued}
 use Rattle.string_turn.specs.Take.{scanning, isEmpty, takeOf}
 use Rattle.string_turn.specs.declared.take.Pending.the-variants.{Empty, Backslash}

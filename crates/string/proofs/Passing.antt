@@ -23,7 +23,7 @@ use Rattle.chars.proofs.Stretches.{is-other}
 use Rattle.literal.specs.Trace.{adds, checks}
 use Rattle.classes.specs.Marks.{lf, cr, dollar, backslash, backtick, leftBrace}
 use Rattle.literal.specs.Answers.{once, tooLong}
-use Rattle.string_turn.specs.Escapes.{onTaken}
+use Rattle.escape.specs.Escapes.{onTaken}
 use Rattle.string_turn.specs.Kinds.{isVerbatim, isInterpolated}
 use Rattle.string_turn.specs.Take.{scanning, isEmpty, nextIs, dollarOf, takeOf}
 use Rattle.string_turn.specs.Passing.{Plain, Added, feed, lone, sign, slash, placeBehind}

@@ -18,7 +18,7 @@ use Rattle.chars.proofs.Cursors.{ate-none}
 use Rattle.literal.specs.Trace.{Trace, adds, checks, Yield, added, tested, yields}
 use Rattle.literal.specs.declared.Refusal.{Refusal}
 use Rattle.literal.specs.Answers.{once, tooLong}
-use Rattle.string_turn.specs.Escapes.{noChar}
+use Rattle.escape.specs.Escapes.{noChar}
 use Rattle.chars.proofs.Reaches.{Reached, Further, behind, further-on, Counted, counted, further-low, further-high}
 use Rattle.string_turn.specs.Take.{inputEnd, takeOf}
 use Rattle.string_turn.specs.Act.{actOf}

@@ -17,7 +17,8 @@ use Rattle.literal.specs.declared.Scanned.the-variants.{Accepted, Refused}
 use Rattle.classes.specs.Marks.{lf, cr, quote, apostrophe, backtick, dollar}
 use Rattle.literal.specs.Answers.{nothing, once, ending, refusal}
 use Rattle.literal.proofs.Computes.{the-places, the-characters, the-readings}
-use Rattle.string_turn.proofs.Computes.{the-escapes, the-takes, the-acts}
+use Rattle.escape.proofs.Computes.{the-escapes}
+use Rattle.string_turn.proofs.Computes.{the-takes, the-acts}
 use Rattle.string.specs.Entry.{stringTrace, scanOf}
 use Rattle.string.proofs.Computes.{the-string-rules, the-string-entry}
 

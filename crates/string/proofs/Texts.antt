@@ -12,7 +12,7 @@ use Rattle.chars.specs.Cursors.{cursor}
 use Rattle.chars.specs.declared.cursor.Cursor.{Cursor}
 use Rattle.chars.proofs.Cursors.{ate, got}
 use Rattle.classes.specs.Marks.{lf, cr, dollar, backslash, backtick, leftBrace}
-use Rattle.string_turn.specs.Escapes.{noChar}
+use Rattle.escape.specs.Escapes.{noChar}
 use Rattle.string_turn.specs.Kinds.{isVerbatim, isInterpolated}
 use Rattle.string_turn.specs.Take.{scanning, isEmpty, nextIs, dollarOf, takeOf}
 use Rattle.string_turn.specs.declared.take.Pending.the-variants.{Empty}

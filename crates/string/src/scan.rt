@@ -63,7 +63,7 @@ struct Unit {
 }
 
 const NONE: Unit = Unit {
-    c: string_turn::escape::NOTHING,
+    c: escape::NOTHING,
     width: 0,
     place: Position::NONE,
     skip: 0,
@@ -204,7 +204,7 @@ fn escaped(text: &[u8], q: u32, start: Position, here: Clear) -> Unit
     if byte_at(text, here.at + 1) == LF {
         if q == QUOTE {
             return Unit {
-                c: string_turn::escape::NOTHING,
+                c: escape::NOTHING,
                 width: 2,
                 place: here.place.advanced_by(2).lined(),
                 skip: start.column_number() as usize + 1,
@@ -213,7 +213,7 @@ fn escaped(text: &[u8], q: u32, start: Position, here: Clear) -> Unit
         }
         return NONE;
     }
-    let whole = string_turn::escape::whole_at(text, q, here.at);
+    let whole = escape::whole_at(text, q, here.at);
     let skip = here.skip;
     Unit {
         c: whole.c,
@@ -233,7 +233,7 @@ fn skipped(text: &[u8], q: u32, here: Clear) -> Unit
     let below = here.skip;
     if (place.column_number() as usize) < below {
         return Unit {
-            c: string_turn::escape::NOTHING,
+            c: escape::NOTHING,
             width: 1,
             place,
             skip: below,

@@ -1,15 +1,9 @@
 -- What a turn of a string literal is computed with: sets of definitions, each under one name. Assumes nothing.
 use Rattle.white.specs.White.{isWhite}
-use Rattle.classes.specs.Class.{digitOf}
-use Rattle.string_turn.specs.Escapes.{letterOf, digitsAfter, digitsFrom, scalarOf, escapedOf}
 use Rattle.string_turn.specs.Kinds.{isVerbatim, isContinued, isInterpolated}
 use Rattle.string_turn.specs.Endings.{unterminatedAt, malformedAt}
 use Rattle.string_turn.specs.Take.{isEmpty, nextIs, inputEnd, dollarOf, takeOf}
 use Rattle.string_turn.specs.Act.{closeOf, lineFeedOf, escapeOf, addOf, plainOf, otherOf, matchOf, actOf}
-
-unfoldable pub the-escapes : Unit {0}
-unfolding digitOf letterOf digitsAfter digitsFrom scalarOf escapedOf
-the-escapes = tt
 
 -- a character is taken
 unfoldable pub the-takes : Unit {0}

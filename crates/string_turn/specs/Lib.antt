@@ -1,5 +1,3 @@
-pub mod Escapes
-pub mod Whole
 pub mod Kinds
 pub mod Endings
 pub mod Take

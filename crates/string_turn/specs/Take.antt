@@ -13,7 +13,7 @@ use Rattle.chars.specs.Cursors.{cursor, getNextOf, eatNextOf}
 use Rattle.chars.specs.declared.cursor.Cursor.{Cursor}
 use Rattle.classes.specs.Marks.{dollar, backslash, leftBrace}
 use Rattle.literal.specs.Answers.{once, nothing, ending}
-use Rattle.string_turn.specs.Escapes.{onTaken}
+use Rattle.escape.specs.Escapes.{onTaken}
 use Rattle.string_turn.specs.Kinds.{isVerbatim, isContinued, isInterpolated}
 use Rattle.string_turn.specs.Endings.{unterminatedAt}
 use Rattle.string_turn.specs.declared.take.Pending.{Pending}

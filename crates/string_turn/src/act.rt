@@ -12,9 +12,6 @@ ghost use Rattle.string_turn.specs.declared.take.Pending.the-variants.{E
 ghost use Rattle.string_turn.specs.declared.take.Last.the-variants.{Bad};
 ghost use Rattle.string_turn.specs.declared.act.Acted.the-variants.{Over};
 ghost use Rattle.string_turn.specs.Act.{closeOf, lineFeedOf, escapeOf, addOf, plainOf, otherOf, matchOf, actOf};
-use crate::escape;
-use crate::escape::Escaped;
-use crate::escape::NOTHING;
 use crate::kinds;
 use crate::take;
 use crate::take::Last;
@@ -25,6 +22,8 @@ use chars::cursor::Taken;
 use classes::marks::BACKSLASH;
 use classes::marks::CR;
 use classes::marks::LF;
+use escape::Escaped;
+use escape::NOTHING;
 use fault::Fault;
 use fault::Part;
 use literal::End;

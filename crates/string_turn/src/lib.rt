@@ -1,5 +1,4 @@
-// One turn of a string literal's scan, and the escapes.
+// One turn of a string literal's scan.
 pub mod act;
-pub mod escape;
 mod kinds;
 pub mod take;

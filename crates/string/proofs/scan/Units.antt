@@ -19,9 +19,9 @@ use Rattle.utf8.proofs.Bits.{look-ascii}
 use Rattle.utf8.proofs.Encodes.{encoded-none}
 use Rattle.white.specs.White.{isWhite}
 use Rattle.classes.specs.Marks.{lf, cr, space, quote, apostrophe, backtick, dollar, backslash, leftBrace}
-use Rattle.string_turn.specs.Escapes.{noChar}
-use Rattle.string_turn.specs.Whole.{Whole-at}
-use Rattle.string_turn.specs.declared.escape.WholeEscape.{WholeEscape}
+use Rattle.escape.specs.Escapes.{noChar}
+use Rattle.escape.specs.Whole.{Whole-at}
+use Rattle.escape.specs.declared.WholeEscape.{WholeEscape}
 use Rattle.literal.specs.Trace.{adds, checks, bytes, passes}
 use Rattle.literal.specs.Cut.{cut}
 use Rattle.literal.proofs.Turns.{cut-on, cut-adds}

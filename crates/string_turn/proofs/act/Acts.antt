@@ -13,9 +13,9 @@ use Rattle.chars.specs.declared.cursor.Taken.{Taken}
 use Rattle.chars.specs.declared.cursor.Taken.the-variants as taken
 use Rattle.classes.specs.Marks.{lf, cr, backslash}
 use Rattle.literal.specs.Answers.{nothing, ending}
-use Rattle.string_turn.specs.Escapes.{noChar, escapedOf}
-use Rattle.string_turn.specs.declared.escape.Escaped.{Escaped}
-use Rattle.string_turn.specs.declared.escape.Escaped.the-variants as escaped
+use Rattle.escape.specs.Escapes.{noChar, escapedOf}
+use Rattle.escape.specs.declared.Escaped.{Escaped}
+use Rattle.escape.specs.declared.Escaped.the-variants as escaped
 use Rattle.string_turn.specs.Kinds.{isVerbatim, isContinued}
 use Rattle.string_turn.specs.Endings.{unterminatedAt, malformedAt}
 use Rattle.string_turn.specs.Take.{scanning, isEmpty, nextIs}

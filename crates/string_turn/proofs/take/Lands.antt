@@ -17,7 +17,7 @@ use Rattle.chars.proofs.Cursors.{got-took, ate-took, further}
 use Rattle.literal.specs.Trace.{good}
 use Rattle.literal.proofs.Lands.{Lands}
 use Rattle.classes.specs.Marks.{dollar, backslash, leftBrace}
-use Rattle.string_turn.specs.Escapes.{onTaken}
+use Rattle.escape.specs.Escapes.{onTaken}
 use Rattle.string_turn.specs.Kinds.{isVerbatim, isContinued, isInterpolated}
 use Rattle.string_turn.specs.Take.{isEmpty, nextIs, inputEnd, dollarOf, takeOf}
 use Rattle.string_turn.specs.declared.take.Scanning.{Scanning}

@@ -16,7 +16,7 @@ use Rattle.chars.specs.declared.cursor.Taken.the-variants as taken
 use Rattle.chars.proofs.Cursors.{got-took, ate-took}
 use Rattle.chars.proofs.Reaches.{Further, further-on, took-reached, took-further}
 use Rattle.classes.specs.Marks.{dollar, backslash, leftBrace}
-use Rattle.string_turn.specs.Escapes.{onTaken}
+use Rattle.escape.specs.Escapes.{onTaken}
 use Rattle.string_turn.specs.Kinds.{isVerbatim, isContinued, isInterpolated}
 use Rattle.string_turn.specs.Endings.{unterminatedAt}
 use Rattle.string_turn.specs.Take.{isEmpty, nextIs, inputEnd, dollarOf, takeOf}

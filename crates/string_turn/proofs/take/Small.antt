@@ -16,7 +16,7 @@ use Rattle.chars.specs.declared.cursor.Taken.{Taken}
 use Rattle.chars.specs.declared.cursor.Taken.the-variants as taken
 use Rattle.chars.proofs.Small.{In, Taken-in, got-in, ate-in}
 use Rattle.classes.specs.Marks.{dollar, backslash, leftBrace}
-use Rattle.string_turn.specs.Escapes.{onTaken}
+use Rattle.escape.specs.Escapes.{onTaken}
 use Rattle.string_turn.specs.Kinds.{isVerbatim, isContinued, isInterpolated}
 use Rattle.string_turn.specs.Endings.{unterminatedAt}
 use Rattle.string_turn.specs.Take.{isEmpty, nextIs, inputEnd, dollarOf, takeOf}

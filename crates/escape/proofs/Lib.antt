@@ -1,3 +1,4 @@
+pub mod Computes
 pub mod Ways
 pub mod Wholes
 pub mod Small

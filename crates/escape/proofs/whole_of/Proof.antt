@@ -1,10 +1,10 @@
 -- Each return is a law of proofs/Wholes.antt on the whole.
 use native.Mathlib.Omega.{arith}
 use borrow.Author.Needs.{needs}
-use Rattle.string_turn.specs.Whole.{none}
-use Rattle.string_turn.proofs.escape.Wholes.{whole-letter, whole-terminator, whole-number}
-use Rattle.string_turn.proofs.escape.whole_of.Statement.{statement}
-use Rattle.string_turn.proofs.escape.whole_of.Tie as tie
+use Rattle.escape.specs.Whole.{none}
+use Rattle.escape.proofs.Wholes.{whole-letter, whole-terminator, whole-number}
+use Rattle.escape.proofs.whole_of.Statement.{statement}
+use Rattle.escape.proofs.whole_of.Tie as tie
 
 returns : tie.Need-returns
 returns c =

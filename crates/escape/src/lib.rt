@@ -4,8 +4,8 @@ ghost use Prim.Native.Nat.{_+_, _≤_};
 ghost use lib.ListN.{length};
 ghost use Rattle.utf8.specs.Table.{lookAt};
 ghost use Rattle.utf8.specs.declared.Look.the-variants.{Char};
-ghost use Rattle.string_turn.specs.Escapes.{noChar, letterOf, digitsAfter, digitsFrom, scalarOf, escapedOf};
-ghost use Rattle.string_turn.specs.Whole.{Digits-at, Whole-at};
+ghost use Rattle.escape.specs.Escapes.{noChar, letterOf, digitsAfter, digitsFrom, scalarOf, escapedOf};
+ghost use Rattle.escape.specs.Whole.{Digits-at, Whole-at};
 use chars::cursor::Cursor;
 use chars::cursor::Taken;
 use classes::marks::BACKSLASH;
@@ -103,7 +103,7 @@ fn number(text: &[u8], n: u32, here: Cursor) -> Escaped
 }
 
 // What a backslash and the character c stand for, where c was taken and the cursor stands behind it.
-pub(crate) fn unescape(text: &[u8], c: u32, here: Cursor) -> Escaped
+pub fn unescape(text: &[u8], c: u32, here: Cursor) -> Escaped
     ensures { λ r. ⌜ r ≡ escapedOf (now (text .entry)) c here ⌝ }
 {
     let letter = letter_of(c);

@@ -4,9 +4,9 @@ use native.Mathlib.Omega.{arith}
 use mathlib.Core.Path.{refl}
 use lib.ListN.{length}
 use borrow.Author.Needs.{needs}
-use Rattle.string_turn.proofs.escape.Wholes.{Counted, counted-start, counted-done, counted-small, counted-more}
-use Rattle.string_turn.proofs.escape.value_at.Statement.{statement}
-use Rattle.string_turn.proofs.escape.value_at.Tie as tie
+use Rattle.escape.proofs.Wholes.{Counted, counted-start, counted-done, counted-small, counted-more}
+use Rattle.escape.proofs.value_at.Statement.{statement}
+use Rattle.escape.proofs.value_at.Tie as tie
 
 abbrev Inv-loop : tie.InvT-loop
 Inv-loop text from n v₀ i₀ v i = Counted text from n v i

@@ -1,7 +1,7 @@
 -- Each arm of the match is a law of proofs/Ways.antt on the letters.
-use Rattle.string_turn.proofs.escape.Ways.{letter-r, letter-n, letter-backslash, letter-t, no-letter}
-use Rattle.string_turn.proofs.escape.letter_of.Statement.{statement}
-use Rattle.string_turn.proofs.escape.letter_of.Tie as tie
+use Rattle.escape.proofs.Ways.{letter-r, letter-n, letter-backslash, letter-t, no-letter}
+use Rattle.escape.proofs.letter_of.Statement.{statement}
+use Rattle.escape.proofs.letter_of.Tie as tie
 
 pub letter-of-spec : {M : Type 1} → statement M
 letter-of-spec =

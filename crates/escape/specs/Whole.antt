@@ -8,10 +8,10 @@ use Rattle.position.specs.Place.{advancedBy}
 use Rattle.utf8.specs.Table.{lookAt}
 use Rattle.utf8.specs.declared.Look.the-variants as look
 use Rattle.chars.specs.Cursors.{cursor}
-use Rattle.string_turn.specs.Escapes.{digitsFrom, escapedOf}
-use Rattle.string_turn.specs.declared.escape.Digits.the-variants.{Value}
-use Rattle.string_turn.specs.declared.escape.Escaped.the-variants.{Char, Other}
-use Rattle.string_turn.specs.declared.escape.WholeEscape.{WholeEscape}
+use Rattle.escape.specs.Escapes.{digitsFrom, escapedOf}
+use Rattle.escape.specs.declared.Digits.the-variants.{Value}
+use Rattle.escape.specs.declared.Escaped.the-variants.{Char, Other}
+use Rattle.escape.specs.declared.WholeEscape.{WholeEscape}
 
 -- the n digits from an offset make a number, and each takes one byte and one column
 abbrev pub Digits-at : Text → ℕ → ℕ → ℕ → Type 0

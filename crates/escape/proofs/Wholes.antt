@@ -20,10 +20,10 @@ use Rattle.utf8.proofs.Ranges.{within-high}
 use Rattle.classes.specs.Class.{digitOf}
 use Rattle.chars.specs.Cursors.{cursor}
 use Rattle.chars.proofs.Cursors.{ate}
-use Rattle.string_turn.specs.Escapes.{noChar, letterOf, digitsAfter}
-use Rattle.string_turn.specs.Whole.{Digits-at, wholeEscape, Whole-at, stands, itself}
-use Rattle.string_turn.specs.declared.escape.Escaped.the-variants.{Char}
-use Rattle.string_turn.proofs.escape.Ways.{Counting, counting-start, counting-done, counting-small, counting-more, digits-scalar, escapes-letter, escapes-other, escapes-number}
+use Rattle.escape.specs.Escapes.{noChar, letterOf, digitsAfter}
+use Rattle.escape.specs.Whole.{Digits-at, wholeEscape, Whole-at, stands, itself}
+use Rattle.escape.specs.declared.Escaped.the-variants.{Char}
+use Rattle.escape.proofs.Ways.{Counting, counting-start, counting-done, counting-small, counting-more, digits-scalar, escapes-letter, escapes-other, escapes-number}
 
 -- ---- a scalar value is not the number that stands for none
 scalar-some : (v : ℕ) → isScalar v ≡ true → v ≡ noChar → ⊥

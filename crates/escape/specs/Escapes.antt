@@ -10,10 +10,10 @@ use Rattle.chars.specs.Cursors.{eatNextOf}
 use Rattle.chars.specs.declared.cursor.Cursor.{Cursor}
 use Rattle.chars.specs.declared.cursor.Taken.{Taken}
 use Rattle.chars.specs.declared.cursor.Taken.the-variants as taken
-use Rattle.string_turn.specs.declared.escape.Digits.{Digits}
-use Rattle.string_turn.specs.declared.escape.Digits.the-variants.{Value, Bad}
-use Rattle.string_turn.specs.declared.escape.Escaped.{Escaped}
-use Rattle.string_turn.specs.declared.escape.Escaped.the-variants.{Char, Malformed, Other}
+use Rattle.escape.specs.declared.Digits.{Digits}
+use Rattle.escape.specs.declared.Digits.the-variants.{Value, Bad}
+use Rattle.escape.specs.declared.Escaped.{Escaped}
+use Rattle.escape.specs.declared.Escaped.the-variants.{Char, Malformed, Other}
 
 -- no character: the number after the last code point
 abbrev pub noChar : ℕ

@@ -1,8 +1,8 @@
 -- Each return is a law of proofs/Ways.antt on the whole.
 use borrow.Author.Needs.{needs}
-use Rattle.string_turn.proofs.escape.Ways.{escapes-letter, escapes-other, escapes-number}
-use Rattle.string_turn.proofs.escape.unescape.Statement.{statement}
-use Rattle.string_turn.proofs.escape.unescape.Tie as tie
+use Rattle.escape.proofs.Ways.{escapes-letter, escapes-other, escapes-number}
+use Rattle.escape.proofs.unescape.Statement.{statement}
+use Rattle.escape.proofs.unescape.Tie as tie
 
 pub unescape-spec : {M : Type 1} → statement M
 unescape-spec =

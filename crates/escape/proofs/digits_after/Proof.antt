@@ -1,8 +1,8 @@
 -- Each arm of the match is a law of proofs/Ways.antt on the letters.
 use native.Mathlib.Omega.{arith}
-use Rattle.string_turn.proofs.escape.Ways.{after-x, after-u, after-U, after-none}
-use Rattle.string_turn.proofs.escape.digits_after.Statement.{statement}
-use Rattle.string_turn.proofs.escape.digits_after.Tie as tie
+use Rattle.escape.proofs.Ways.{after-x, after-u, after-U, after-none}
+use Rattle.escape.proofs.digits_after.Statement.{statement}
+use Rattle.escape.proofs.digits_after.Tie as tie
 
 pub digits-after-spec : {M : Type 1} → statement M
 digits-after-spec =

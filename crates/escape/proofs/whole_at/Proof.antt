@@ -5,9 +5,9 @@ use mathlib.Core.Path.{refl, sym, ap, _∙_}
 use borrow.Author.Needs.{needs}
 use Rattle.utf8.specs.declared.Look.the-variants.{Char}
 use Rattle.utf8.proofs.Bits.{look-ascii}
-use Rattle.string_turn.specs.Whole.{none}
-use Rattle.string_turn.proofs.escape.whole_at.Statement.{statement}
-use Rattle.string_turn.proofs.escape.whole_at.Tie as tie
+use Rattle.escape.specs.Whole.{none}
+use Rattle.escape.proofs.whole_at.Statement.{statement}
+use Rattle.escape.proofs.whole_at.Tie as tie
 
 whole-of-requires : tie.Need-whole-of-requires
 whole-of-requires c κs =

@@ -2,9 +2,9 @@
 use Prim.Native.Nat.{_-_, _<_}
 use native.Mathlib.Omega.{arith}
 use borrow.Author.Needs.{needs}
-use Rattle.string_turn.proofs.escape.Ways.{Counting, counting-start, counting-cut, counting-bad, counting-more, counting-done, counting-small}
-use Rattle.string_turn.proofs.escape.hex_digits.Statement.{statement}
-use Rattle.string_turn.proofs.escape.hex_digits.Tie as tie
+use Rattle.escape.proofs.Ways.{Counting, counting-start, counting-cut, counting-bad, counting-more, counting-done, counting-small}
+use Rattle.escape.proofs.hex_digits.Statement.{statement}
+use Rattle.escape.proofs.hex_digits.Tie as tie
 
 abbrev Inv-loop : tie.InvT-loop
 Inv-loop text n from v₀ i₀ here v i = Counting text n from here v i

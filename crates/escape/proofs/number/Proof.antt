@@ -1,8 +1,8 @@
 -- What the digits gave is told apart as the definition does.
 use borrow.Author.Needs.{needs}
-use Rattle.string_turn.proofs.escape.Ways.{digits-scalar, digits-none, digits-bad}
-use Rattle.string_turn.proofs.escape.number.Statement.{statement}
-use Rattle.string_turn.proofs.escape.number.Tie as tie
+use Rattle.escape.proofs.Ways.{digits-scalar, digits-none, digits-bad}
+use Rattle.escape.proofs.number.Statement.{statement}
+use Rattle.escape.proofs.number.Tie as tie
 
 pub number-spec : {M : Type 1} → statement M
 number-spec =
