@@ -1,4 +1,4 @@
-// How an answer crosses a C name: as one number.
+// How an answer crosses a C name of comparison: as one number; and what is returned where its row has no room.
 ghost use mathlib.Core.Path.{_≡_};
 ghost use Rattle.c_answer.specs.Packed.{packed, writtenAsNumber};
 ghost use Rattle.c_answer.specs.Short.{shortRowNumber};

@@ -1,4 +1,4 @@
-// Block comments through C: `scan_block_comment` on numbers and byte slices.
+// Comments through C: `scan_block_comment` on numbers and byte slices, and `is_doc_comment`.
 ghost use mathlib.Core.Path.{_≡_};
 ghost use Prim.Native.Nat.{_≤_};
 ghost use lib.ListN.{getD};
