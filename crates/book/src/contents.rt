@@ -3,14 +3,14 @@ ghost use Rattle.std.specs.Prelude.{◌≡◌, ◌+◌, ◌<◌, ◌≤◌, leng
 ghost use Rattle.book.specs.Contents.{u16_at, word_count, bodies, start_at, word_at, rows_of, row_of};
 
 // How many rows the contents have, or that the book is too short for them.
-#[derive(Drop)]
+#[derive(Clone, Copy)]
 pub enum Rows {
     Counted(usize),
     Short,
 }
 
 // A word's row: where its body starts in the book, how long the body is, and the flags.
-#[derive(Drop)]
+#[derive(Clone, Copy)]
 pub struct Row {
     pub start: usize,
     pub size: usize,

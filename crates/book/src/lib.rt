@@ -1,4 +1,6 @@
 // The word book's check (document 01, Word book; stands in for RESERVED_LIST).
+#![tactic(auto)]
+
 pub mod contents;
 pub mod order;
 

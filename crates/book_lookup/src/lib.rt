@@ -1,4 +1,6 @@
 // Reserved words: lookups in a word book (document 01, Word book; in the source `is_reserved_keyword_or_symbol`).
+#![tactic(auto)]
+
 mod seek;
 pub mod two_books;
 
@@ -9,7 +11,7 @@ ghost use Rattle.book_lookup.specs.Halving.{halved_of};
 use crate::seek::SoughtWord;
 
 // What a book says of a word; the source answers these three as a tuple.
-#[derive(Drop)]
+#[derive(Clone, Copy)]
 pub struct Reserved {
     pub found: bool,
     pub a: bool,

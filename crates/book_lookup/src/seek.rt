@@ -6,7 +6,7 @@ use book::contents::Rows;
 use book::order::Order;
 
 // Which word of a book a text is.
-#[derive(Drop)]
+#[derive(Clone, Copy)]
 pub enum SoughtWord {
     At(usize),
     Nothing,

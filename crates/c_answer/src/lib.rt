@@ -1,4 +1,6 @@
 // How an answer crosses a C name of comparison: as one number; and what is returned where its row has no room.
+#![tactic(auto)]
+
 ghost use Rattle.std.specs.Prelude.{◌≡◌};
 ghost use Rattle.c_answer.specs.Packed.{packed, written_as_number};
 ghost use Rattle.c_answer.specs.Short.{short_row_number};

@@ -6,14 +6,14 @@ ghost use Rattle.chars.specs.Cursors.{get_next_of, eat_next_of};
 use position::Position;
 use utf8::Look;
 
-#[derive(Drop)]
+#[derive(Clone, Copy)]
 pub struct Cursor {
     pub at: usize,
     pub place: Position,
 }
 
 // A character that was taken, with the cursor behind it.
-#[derive(Drop)]
+#[derive(Clone, Copy)]
 pub enum Taken {
     Char(u32, Cursor),
     End,

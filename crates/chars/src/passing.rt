@@ -5,7 +5,7 @@ ghost use Rattle.utf8.specs.declared.Look.TheVariants.{End};
 ghost use Rattle.chars.specs.Stretch.{StretchOf, NextChar, among, Low, High, Other};
 
 // The offset behind what was passed, and how many characters that is.
-#[derive(Drop)]
+#[derive(Clone, Copy)]
 pub struct Passed {
     pub at: usize,
     pub count: usize,

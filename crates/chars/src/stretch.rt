@@ -11,7 +11,7 @@ use crate::passing::Passed;
 use classes::marks;
 
 // What goes on: ASCII letters, digits and `_`, or all but LF.
-#[derive(Drop)]
+#[derive(Clone, Copy)]
 pub enum Stretch {
     Word,
     Line,

@@ -1,4 +1,6 @@
 // Classes of characters: the ASCII classes that the Rust asks for; and the characters that the rules of a script name.
+#![tactic(auto)]
+
 pub mod marks;
 
 ghost use Rattle.std.specs.Prelude.{◌≡◌};

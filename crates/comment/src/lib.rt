@@ -1,4 +1,6 @@
 // Block comments: the Rust's `scan_block_comment`, with the refusals of its arguments.
+#![tactic(auto)]
+
 pub mod doc;
 pub mod scan;
 

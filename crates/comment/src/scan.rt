@@ -8,21 +8,21 @@ use classes::marks::{LF, SLASH, STAR};
 use fault::Fault;
 
 // The level that is still open, 0 where the comment is closed, and the cursor behind what was taken.
-#[derive(Drop)]
+#[derive(Clone, Copy)]
 pub struct Comment {
     pub level: usize,
     pub cursor: Cursor,
 }
 
 // A scan's answer: where it ended, or a refusal.
-#[derive(Drop)]
+#[derive(Clone, Copy)]
 pub enum Commented {
     Done(Comment),
     Refused(Fault),
 }
 
 // One turn of the scan, with the level that is then open and the cursor: it goes on, or it is over.
-#[derive(Drop)]
+#[derive(Clone, Copy)]
 enum Led {
     On(usize, Cursor),
     Over(usize, Cursor),

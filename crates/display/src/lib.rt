@@ -1,4 +1,6 @@
 // The words of types/position.rs, written into lent bytes: Display and Debug for Position, Display for Span.
+#![tactic(auto)]
+
 ghost use Rattle.std.specs.Prelude.{◌+◌, ◌≤◌, ◌<◌, [], ◌∷◌, ◌≡◌, length};
 ghost use Rattle.lent.specs.Written.{written_of, left_of};
 ghost use Rattle.position.specs.Place.{column_number};
@@ -11,7 +13,7 @@ use position::Position;
 use span::Span;
 
 // What is shown: a place by Display or by Debug, or a span, of which the two are one.
-#[derive(Drop)]
+#[derive(Clone, Copy)]
 pub enum Shown {
     Display(Position),
     Debug(Position),
@@ -20,7 +22,7 @@ pub enum Shown {
 
 // A text while it is put together: its length, and the bytes with it in front. None has more than
 // the 26 bytes of `line 65535, position 65535`.
-#[derive(Drop)]
+#[derive(Clone, Copy)]
 struct Buffer {
     bytes: [u8; 32],
     len: usize,

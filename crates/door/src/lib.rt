@@ -1,4 +1,6 @@
 // The door: what every scan of a text from an offset asks first.
+#![tactic(auto)]
+
 pub mod run;
 
 ghost use Rattle.std.specs.Prelude.{◌≡◌};

@@ -1,10 +1,12 @@
 // An entry of what a run lists: a token's kind, its place, and where its bytes stand.
+#![tactic(auto)]
+
 pub mod kinds;
 
 use position::Position;
 
 // A token's kind, its place, and where it stands and how long it is, in the script or, for a literal, in the packed literal bytes.
-#[derive(Drop)]
+#[derive(Clone, Copy)]
 pub struct Entry {
     pub kind: u8,
     pub place: Position,

@@ -1,4 +1,6 @@
 // Escapes in a string literal: what a backslash and the character after it stand for.
+#![tactic(auto)]
+
 ghost use Rattle.std.specs.Prelude.{◌≡◌, ◌+◌, ◌≤◌, length};
 ghost use Rattle.utf8.specs.Table.{look_at};
 ghost use Rattle.utf8.specs.declared.Look.TheVariants.{Char};
@@ -13,7 +15,7 @@ pub const NOTHING: u32 = 0x110000;
 
 // An escape whose character was taken: what it stands for and the cursor behind it, that it is
 // malformed and the cursor then, or that it is none of those that all literals have.
-#[derive(Drop)]
+#[derive(Clone, Copy)]
 pub enum Escaped {
     Char(u32, Cursor),
     Malformed(Cursor),
@@ -21,7 +23,7 @@ pub enum Escaped {
 }
 
 // What a whole escape stands for, and how many bytes it has, its backslash too; 0 where none was read.
-#[derive(Drop)]
+#[derive(Clone, Copy)]
 pub struct WholeEscape {
     pub c: u32,
     pub width: usize,
@@ -33,7 +35,7 @@ const NONE: WholeEscape = WholeEscape {
 };
 
 // The number that digits make and the cursor behind them, or the cursor where they fail.
-#[derive(Drop)]
+#[derive(Clone, Copy)]
 enum Digits {
     Value(u32, Cursor),
     Bad(Cursor),

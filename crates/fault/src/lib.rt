@@ -1,11 +1,13 @@
 // What is wrong with an input: a refusal's number, the place reported with it, and the part of the script that it is about.
+#![tactic(auto)]
+
 ghost use Rattle.std.specs.Prelude.{◌≡◌};
 ghost use Rattle.fault.specs.Faults.{fault, fault_in};
 
 use position::Position;
 
 // A part of the script: where it begins, and how many bytes it has.
-#[derive(Drop)]
+#[derive(Clone, Copy)]
 pub struct Part {
     pub at: usize,
     pub len: usize,
@@ -16,7 +18,7 @@ impl Part {
     pub const NONE: Self = Self { at: 0, len: 0 };
 }
 
-#[derive(Drop)]
+#[derive(Clone, Copy)]
 pub struct Fault {
     pub number: u8,
     pub place: Position,

@@ -1,4 +1,6 @@
 // What begins at a place of a script: document 01, "Run".
+#![tactic(auto)]
+
 ghost use Rattle.std.specs.Prelude.{◌≡◌, true, ◌+◌, ◌≤◌, ◌<◌, length};
 ghost use Rattle.book.specs.Book.{good};
 ghost use Rattle.utf8.specs.Table.{look_at};
@@ -32,7 +34,7 @@ use token::tokens;
 use utf8::Look;
 
 // What opens a literal: its kind, and the terminator that closes it; a raw literal's is `#`.
-#[derive(Drop)]
+#[derive(Clone, Copy)]
 pub struct Opener {
     pub kind: u8,
     pub terminator: u32,
@@ -61,7 +63,7 @@ impl Opener {
 }
 
 // The cursor comes first in each, at one offset: the compiler then keeps it in registers.
-#[derive(Drop)]
+#[derive(Clone, Copy)]
 pub enum Found {
     // White space, up to a cursor.
     White(Cursor),
@@ -76,7 +78,7 @@ pub enum Found {
 }
 
 // What a mark is the sign of. A mark is a character that is not white, no letter, no `_` and no digit.
-#[derive(Drop)]
+#[derive(Clone, Copy)]
 enum Sign {
     // A literal, by what opens it.
     Literal(Opener),

@@ -1,4 +1,6 @@
 // Identifiers: the Rust's `parse_identifier_token`, with the refusals of its arguments.
+#![tactic(auto)]
+
 pub mod scan;
 pub mod valid;
 

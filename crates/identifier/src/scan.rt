@@ -12,7 +12,7 @@ use fault::{Fault, Part};
 use token::Lookup;
 
 // What stands at a place: its kind, its token, and the cursor behind it.
-#[derive(Drop)]
+#[derive(Clone, Copy)]
 pub struct Word {
     pub kind: u8,
     pub token: u8,
@@ -20,7 +20,7 @@ pub struct Word {
 }
 
 // A word, or the fault with the cursor that the scan had reached.
-#[derive(Drop)]
+#[derive(Clone, Copy)]
 pub enum Identified {
     Found(Word),
     Refused(Fault, Cursor),
@@ -39,7 +39,7 @@ impl Identified {
 }
 
 // The kind and the token of a text, or that it is no identifier.
-#[derive(Drop)]
+#[derive(Clone, Copy)]
 enum Class {
     Is(u8, u8),
     Malformed,

@@ -1,4 +1,6 @@
 // Keywords and symbols: which token a text is, by the list of `token`.
+#![tactic(auto)]
+
 ghost use Rattle.std.specs.Prelude.{◌≡◌, ◌≤◌, length};
 ghost use Rattle.token.specs.Spelt.{word_number};
 ghost use Rattle.keywords.specs.Lookup.{lookup_of};

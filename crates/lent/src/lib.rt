@@ -1,10 +1,12 @@
 // Memory that a caller lends: bytes go into it whole or not at all.
+#![tactic(auto)]
+
 ghost use Rattle.std.specs.Prelude.{◌≡◌, replicate};
 ghost use Rattle.basis.specs.Store.{stored, after};
 ghost use Rattle.lent.specs.Written.{written_of, left_of};
 
 // How a write went: how many bytes were written, or the refusal's number.
-#[derive(Drop)]
+#[derive(Clone, Copy)]
 pub enum Written {
     Done(usize),
     Refused(u8),

@@ -1,5 +1,7 @@
 // The listing of a script, one token on a line: its place, its kind, and its bytes in hex. Document 01, "Listing program": the
 // empty book, no limit, 1,800 entries and 32,768 literal bytes.
+#![tactic(auto)]
+
 ghost use Rattle.std.specs.Prelude.{◌+◌, ◌*◌, ◌≤◌, ◌<◌, min, [], ◌∷◌, ◌≡◌, length, drop};
 ghost use Rattle.display.specs.Decimal.{decimal};
 ghost use Rattle.display.specs.Forms.{debug_of};

@@ -1,8 +1,9 @@
 // Lists the tokens of the script on standard input, one on a line: document 01, "Listing program". A byte more than a script may
 // have is read, to tell that it is too long. A script that could not be read whole is not listed.
+#![tactic(auto)]
 
 // What came of reading the script: so many bytes of it, all that there are or all that fit; or a read failed.
-#[derive(Drop)]
+#[derive(Clone, Copy)]
 enum Script {
     Read(usize),
     Failed,

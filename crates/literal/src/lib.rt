@@ -1,4 +1,6 @@
 // How a scan of a literal answers, and the limit on a literal's length.
+#![tactic(auto)]
+
 ghost use Rattle.std.specs.Prelude.{false, ◌≡◌, ◌+◌, ◌≤◌, ◌<◌};
 ghost use Rattle.literal.specs.Trace.{passes};
 ghost use Rattle.literal.specs.Told.{scanned_fault};
@@ -10,7 +12,7 @@ use fault::Fault;
 use position::Position;
 
 // The terminator on record, for a literal that is still open: a character, and how often it stands.
-#[derive(Drop)]
+#[derive(Clone, Copy)]
 pub struct Terminator {
     pub c: u32,
     pub times: usize,
@@ -22,7 +24,7 @@ impl Terminator {
 }
 
 // Where an accepted literal ends, where its first character ended, and whether `${` ended it.
-#[derive(Drop)]
+#[derive(Clone, Copy)]
 pub struct End {
     pub cursor: Cursor,
     pub first: Position,
@@ -31,7 +33,7 @@ pub struct End {
 }
 
 // A refusal, and where the scan then stood.
-#[derive(Drop)]
+#[derive(Clone, Copy)]
 pub struct Refusal {
     pub fault: Fault,
     pub cursor: Cursor,
@@ -39,7 +41,7 @@ pub struct Refusal {
 }
 
 // A scan's answer: the end and the body's length in bytes, or a refusal.
-#[derive(Drop)]
+#[derive(Clone, Copy)]
 pub enum Scanned {
     Accepted(End, usize),
     Refused(Refusal),

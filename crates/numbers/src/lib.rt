@@ -1,4 +1,6 @@
 // Numbers as little-endian bytes, put into memory that a caller lends: alone, or a row of them.
+#![tactic(auto)]
+
 ghost use Rattle.std.specs.Prelude.{◌≡◌};
 ghost use Rattle.basis.specs.Store.{stored, after};
 ghost use Rattle.lent.specs.Written.{written_of, left_of};

@@ -6,14 +6,14 @@ use fault::Fault;
 use position::Position;
 
 // A place, or the number of the refusal.
-#[derive(Drop)]
+#[derive(Clone, Copy)]
 pub enum Placed {
     At(Position),
     Refused(u8),
 }
 
 // The Rust's Option<usize>.
-#[derive(Drop)]
+#[derive(Clone, Copy)]
 pub enum Coordinate {
     Some(usize),
     None,

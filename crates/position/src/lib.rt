@@ -1,4 +1,6 @@
 // Places in a script, a line and a column of at most 65,535 each: the type Position of types/position.rs, and its moves for the scanners.
+#![tactic(auto)]
+
 ghost use Rattle.std.specs.Prelude.{◌≡◌};
 ghost use Rattle.position.specs.Place.{
   given,
@@ -14,7 +16,7 @@ ghost use Rattle.position.specs.Place.{
   rewound,
 };
 
-#[derive(Drop)]
+#[derive(Clone, Copy)]
 pub struct Position {
     // 0 is no line.
     line: u16,

@@ -1,4 +1,6 @@
 // Raw string literals: the entries of the Rust's `parse_raw_string_literal`, which ask their arguments first.
+#![tactic(auto)]
+
 pub mod open;
 pub mod scan;
 pub mod write;

@@ -12,7 +12,7 @@ use literal::{Refusal, Terminator};
 use position::Position;
 
 // What the opening leads to: the body, which so many hashes close, at a cursor; or a refusal.
-#[derive(Drop)]
+#[derive(Clone, Copy)]
 pub enum Opened {
     At(usize, Cursor),
     Refused(Refusal),

@@ -65,7 +65,7 @@ fn accept(cursor: Cursor, first: Position, on_record: Terminator, len: usize) ->
 }
 
 // Where a scan of the body stands: the cursor, the first place, and the length of the body.
-#[derive(Drop)]
+#[derive(Clone, Copy)]
 struct Stand {
     here: Cursor,
     first: Position,
@@ -146,7 +146,7 @@ fn hashes_at(text: &[u8], from: usize, k: usize) -> usize
 // How many bytes and columns a quote that closes nothing is passed with: alone with the hashes behind it where another quote,
 // which begins the attempt to close anew, stands behind them; else with the character that ends the attempt too. It has no byte
 // where nothing is passed.
-#[derive(Drop)]
+#[derive(Clone, Copy)]
 struct Lost {
     width: usize,
     columns: usize,

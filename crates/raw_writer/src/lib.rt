@@ -1,4 +1,6 @@
 // The raw writer: a body between hashes and quotes, so that the raw scanner reads it back.
+#![tactic(auto)]
+
 ghost use Rattle.std.specs.Prelude.{◌≡◌, ◌≤◌, max, length};
 ghost use Rattle.basis.specs.Store.{over};
 ghost use Rattle.raw_writer.specs.Step.{next_held};

@@ -1,9 +1,11 @@
 // What a run over a script runs within, and how it ends.
+#![tactic(auto)]
+
 use fault::Fault;
 use position::Position;
 
 // The limit on a literal's bytes, 0 for none; and how many literal bytes and how many entries there is room for.
-#[derive(Drop)]
+#[derive(Clone, Copy)]
 pub struct Bounds {
     pub limit: usize,
     pub literals: usize,
@@ -11,7 +13,7 @@ pub struct Bounds {
 }
 
 // The script's end and its place, or a stop that holds the fault and, inside it, its place.
-#[derive(Drop)]
+#[derive(Clone, Copy)]
 pub enum Ending {
     End(Position),
     Stop(Fault),

@@ -7,7 +7,7 @@ use position::Position;
 // The names of lines that ask nothing are below this one: those that begin with `#`, and those of fewer than four bytes.
 pub const LEAST: usize = 0x2400_0000;
 
-#[derive(Drop)]
+#[derive(Clone, Copy)]
 pub struct Case {
     // The first four bytes of the line as one number.
     pub name: usize,

@@ -2,6 +2,8 @@
 // written, src/ask.rt what can be asked). The line is written with the answer behind it; a line that is empty or begins with
 // `#` is written as it is. The file stdin has the cases, and the gate holds what is written to the file stdout, which says where
 // each answer comes from.
+#![tactic(auto)]
+
 use line::Case;
 
 mod ask;

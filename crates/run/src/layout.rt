@@ -8,7 +8,7 @@ ghost use Rattle.run.specs.Layouts.{entry_width, laid_by, memory_of};
 use entry::Entry;
 
 // As five numbers, or as bytes, four per number.
-#[derive(Drop)]
+#[derive(Clone, Copy)]
 pub enum Layout {
     Numbers,
     Bytes,

@@ -1,4 +1,6 @@
 // The run over a script: document 01, "Run". It lists the tokens in their order, within a limit and what is lent.
+#![tactic(auto)]
+
 pub mod bytes;
 mod layout;
 mod tokens;
@@ -18,7 +20,7 @@ use position::Position;
 use reading::Ending;
 
 // How a run ended, how many entries it listed, and how many literal bytes it used.
-#[derive(Drop)]
+#[derive(Clone, Copy)]
 pub struct Ran {
     pub ending: Ending,
     pub listed: usize,

@@ -1,4 +1,6 @@
 // Where a run over a script stands: the Rust's TokenizeState, by value. specs/ has the reading of a script by the unlimited rules.
+#![tactic(auto)]
+
 ghost use Rattle.std.specs.Prelude.{◌≡◌, ◌<◌};
 ghost use Rattle.script.specs.States.{begun_at, moved_to, interpolating, opened, closed, Fine, Fits, behind_of};
 ghost use Rattle.script.specs.Counts.{passed_of, counts};
@@ -7,7 +9,7 @@ use chars::cursor::Cursor;
 use fault::Fault;
 use token::tokens;
 
-#[derive(Drop)]
+#[derive(Clone, Copy)]
 pub struct State {
     // Behind the last character taken.
     pub cursor: Cursor,
@@ -20,14 +22,14 @@ pub struct State {
 }
 
 // What is to be said of a literal that its scan accepts: nothing, or that it is wrong in a run.
-#[derive(Drop)]
+#[derive(Clone, Copy)]
 pub enum Verdict {
     Fine,
     Wrong(Fault),
 }
 
 // What a run has passed: something that opens and closes nothing, a piece of text that `${` ended, or the Rust's token.
-#[derive(Drop)]
+#[derive(Clone, Copy)]
 pub enum Crossed {
     Plain,
     Piece,

@@ -1,10 +1,12 @@
 // Spans between two places: the type Span of types/position.rs.
+#![tactic(auto)]
+
 ghost use Rattle.std.specs.Prelude.{◌≡◌};
 ghost use Rattle.span.specs.Spans.{new_span, is_no_span, span_start, span_end};
 
 use position::Position;
 
-#[derive(Drop)]
+#[derive(Clone, Copy)]
 pub struct Span {
     start: Position,
     end: Position,

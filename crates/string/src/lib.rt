@@ -1,5 +1,7 @@
 // String literals: the entry of the Rust's `parse_string_literal` for its three terminators, `"`, `'` and backtick, which asks its
 // arguments first.
+#![tactic(auto)]
+
 pub mod scan;
 
 ghost use Rattle.std.specs.Prelude.{◌≡◌, length};

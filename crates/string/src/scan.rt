@@ -22,7 +22,7 @@ use string_turn::act::Acted;
 use string_turn::take::{Got, Last, Pending, Scanning, Stood};
 
 // Where a scan stands: the offset, the state, and the length of the body so far.
-#[derive(Drop)]
+#[derive(Clone, Copy)]
 struct ScanStand {
     at: usize,
     state: Scanning,
@@ -30,7 +30,7 @@ struct ScanStand {
 }
 
 // The same with no escape pending. Reading ahead keeps to these: the state's enum would be written and read back at each step.
-#[derive(Drop)]
+#[derive(Clone, Copy)]
 struct Clear {
     at: usize,
     place: Position,
@@ -41,7 +41,7 @@ struct Clear {
 
 // What is read at once and adds one character or none: its bytes, the place behind it, below which column white space is skipped
 // there, and whether a plain byte is likely to stand behind it. It has no byte where nothing is read.
-#[derive(Drop)]
+#[derive(Clone, Copy)]
 struct Unit {
     c: u32,
     width: usize,
@@ -59,7 +59,7 @@ const NONE: Unit = Unit {
 };
 
 // A turn under a limit: as Acted, or the answer.
-#[derive(Drop)]
+#[derive(Clone, Copy)]
 enum LimitedTurn {
     On(u32, usize, Scanning),
     Over(Scanned),

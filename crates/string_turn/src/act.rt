@@ -23,14 +23,14 @@ use position::Position;
 
 // What a character leads to: the character that is added, NOTHING for none, the offset and the state
 // from which the scan goes on; or how it is over.
-#[derive(Drop)]
+#[derive(Clone, Copy)]
 pub enum Acted {
     Go(u32, usize, Scanning),
     Over(Last),
 }
 
 // Whether a terminator closes the literal; else the cursor behind it, or behind both of a doubled one.
-#[derive(Drop)]
+#[derive(Clone, Copy)]
 enum Closing {
     Closed,
     Open(Cursor),

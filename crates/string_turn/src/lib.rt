@@ -1,4 +1,6 @@
 // One turn of a string literal's scan.
+#![tactic(auto)]
+
 pub mod act;
 mod kinds;
 pub mod take;

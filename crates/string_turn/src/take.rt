@@ -15,14 +15,14 @@ use position::Position;
 use utf8::Look;
 
 // What is pending of an escape: nothing, or a lone backslash, with the offset where it stands.
-#[derive(Drop)]
+#[derive(Clone, Copy)]
 pub enum Pending {
     Empty,
     Backslash(usize),
 }
 
 // What a turn leaves to the next one. White space in columns below `skip` is skipped.
-#[derive(Drop)]
+#[derive(Clone, Copy)]
 pub struct Scanning {
     pub place: Position,
     pub first: Position,
@@ -31,14 +31,14 @@ pub struct Scanning {
 }
 
 // How a scan is over, but for the limit, which is tested again at a good end.
-#[derive(Drop)]
+#[derive(Clone, Copy)]
 pub enum Last {
     Good(End),
     Bad(Refusal),
 }
 
 // Where a scan stands with no escape pending and no white space to skip.
-#[derive(Drop)]
+#[derive(Clone, Copy)]
 pub struct Stood {
     pub at: usize,
     pub place: Position,
@@ -46,7 +46,7 @@ pub struct Stood {
 }
 
 // The character of a turn and the cursor behind it, or how the scan is over.
-#[derive(Drop)]
+#[derive(Clone, Copy)]
 pub enum Got {
     Char(u32, Cursor),
     Over(Last),

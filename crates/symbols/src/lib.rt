@@ -1,4 +1,6 @@
 // The longest symbol at a place of a text, by the list of `token`.
+#![tactic(auto)]
+
 ghost use Rattle.std.specs.Prelude.{◌≡◌, get_or};
 ghost use Rattle.classes.specs.Class.{is_id_continue};
 ghost use Rattle.symbols.specs.Symbols.{longest_of};
@@ -18,7 +20,7 @@ ghost use Rattle.symbols.specs.Begun.{
 use token::tokens::*;
 
 // A symbol's token and its length in bytes, or nothing.
-#[derive(Drop)]
+#[derive(Clone, Copy)]
 pub enum Longest {
     Symbol(u8, usize),
     Nothing,

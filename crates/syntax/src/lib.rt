@@ -1,4 +1,6 @@
 // The text of a token: the Rust's `literal_syntax`.
+#![tactic(auto)]
+
 ghost use Rattle.std.specs.Prelude.{◌≡◌, ◌≤◌, length, drop};
 ghost use Rattle.lent.specs.Written.{written_of, left_of};
 ghost use Rattle.token.specs.Keywords.{keywords, text_in};
@@ -7,7 +9,7 @@ ghost use Rattle.syntax.specs.Syntax.{written_as, literal_syntax_of};
 use token::tokens::*;
 
 // A token's text, in the last of eight bytes, and where it starts there.
-#[derive(Drop)]
+#[derive(Clone, Copy)]
 struct Spelling {
     bytes: [u8; 8],
     at: usize,

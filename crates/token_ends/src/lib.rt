@@ -1,4 +1,6 @@
 // Where the last tokens ended: the Rust's `record_token`, by value.
+#![tactic(auto)]
+
 ghost use Rattle.std.specs.Prelude.{◌≡◌};
 ghost use Rattle.token_ends.specs.Ends.{record_token_of};
 
@@ -7,13 +9,13 @@ use position::Position;
 use token::tokens;
 
 // The Rust's `last_token_end` and `previous_token_end`.
-#[derive(Drop)]
+#[derive(Clone, Copy)]
 pub struct TokenEnds {
     pub last: Position,
     pub previous: Position,
 }
 
-#[derive(Drop)]
+#[derive(Clone, Copy)]
 pub enum Recorded {
     Ends(TokenEnds),
     Refused(u8),

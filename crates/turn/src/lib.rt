@@ -1,4 +1,6 @@
 // One turn of a run over a script, within its bounds.
+#![tactic(auto)]
+
 ghost use Rattle.std.specs.Prelude.{◌≡◌, true, false, ◌+◌, ◌≤◌, eqb, length};
 ghost use Rattle.std.proofs.lemmas.List.Edits.{sets};
 ghost use Rattle.utf8.specs.Table.{chars};
@@ -34,7 +36,7 @@ use utf8::Look;
 const ASIDE: usize = 128;
 
 // How far a run has come within its bounds: the entries that are listed, and the literal bytes that are used.
-#[derive(Drop)]
+#[derive(Clone, Copy)]
 pub struct Room {
     pub bounds: Bounds,
     pub listed: usize,
@@ -42,7 +44,7 @@ pub struct Room {
 }
 
 // What a turn comes to: nothing is listed, an entry is, or the run is over.
-#[derive(Drop)]
+#[derive(Clone, Copy)]
 pub enum Next {
     On,
     Listed(Entry),
@@ -50,7 +52,7 @@ pub enum Next {
 }
 
 // What a turn has passed and up to where, how many literal bytes are used then, and what the turn came to.
-#[derive(Drop)]
+#[derive(Clone, Copy)]
 pub struct Turned {
     // Whether it is a piece of text that `${` ended; else the Rust's token.
     pub piece: bool,
@@ -61,7 +63,7 @@ pub struct Turned {
 }
 
 // A literal that its scan accepts: what opens it, from where its body was read, how it ends, and the body's length.
-#[derive(Drop)]
+#[derive(Clone, Copy)]
 struct Read {
     opener: Opener,
     from: Cursor,

@@ -1,9 +1,11 @@
 // Lists the code points up to U+10FFFF that are white, and those that are no scalar values, as ranges in the form of the
 // property file. The gate holds what it writes to the file stdout; tools/compare-unicode holds that file to Unicode's.
+#![tactic(auto)]
+
 ghost use Rattle.std.specs.Prelude.{◌≤◌};
 
 // What is listed.
-#[derive(Drop)]
+#[derive(Clone, Copy)]
 enum Property {
     WhiteSpace,
     Surrogate,

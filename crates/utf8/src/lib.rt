@@ -1,4 +1,6 @@
 // UTF-8: the character at an offset of a text lent as bytes, and which numbers are characters. With `formed` and `encoder`, the leaf that alone knows about bytes.
+#![tactic(auto)]
+
 pub mod encoder;
 pub mod formed;
 
@@ -9,7 +11,7 @@ ghost use Rattle.utf8.specs.Bits.{bits_of, joined_of, sized_of};
 ghost use Rattle.utf8.specs.Widths.{width_of};
 
 // The character that begins at an offset: its code point and its width in bytes; End where none does.
-#[derive(Drop)]
+#[derive(Clone, Copy)]
 pub enum Look {
     Char(u32, usize),
     End,

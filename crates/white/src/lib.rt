@@ -1,9 +1,11 @@
 // White_Space, the property of Unicode.
+#![tactic(auto)]
+
 ghost use Rattle.std.specs.Prelude.{◌≡◌};
 ghost use Rattle.white.specs.White.{is_white, white_in};
 
 // The edition of Unicode by which a script is read: document 01's, the later of the two that document 02 has.
-#[derive(Drop)]
+#[derive(Clone, Copy)]
 pub enum Edition {
     Later,
 }
