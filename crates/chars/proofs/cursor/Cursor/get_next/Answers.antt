@@ -1,0 +1,33 @@
+-- A character found is taken; where none is found there is none to take.
+use Prim.Native.Nat.{ℕ}
+use native.Mathlib.Omega.{arith}
+use mathlib.Core.List.{List}
+use mathlib.Core.Path.{◌≡◌, sym, ◌∙◌}
+use borrow.Author.Rules.{rules}
+use Rattle.utf8.specs.Table.{look_at}
+use Rattle.utf8.specs.declared.Look.TheVariants.{Char}
+use Rattle.utf8.proofs.Laws.{at_width}
+use Rattle.chars.proofs.Cursors.{got, got_none}
+use Rattle.chars.specs.declared.cursor.Cursor.{Cursor}
+use Rattle.chars.proofs.cursor.Cursor.get_next.Goals as goal
+use Rattle.chars.proofs.cursor.Cursor.get_next.Goals.{In-Char}
+
+-- the character that the look found
+module _ (k : In-Char) where
+  abbrev text : List ℕ
+  text = k.args.text.now
+
+  abbrev self : Cursor
+  self = k.args.self
+
+  found : look_at text self.at ≡ Char k.in-Char.c k.in-Char.w
+  found = sym k.look_at.ensures ∙ k.in-Char.is
+
+pub returns-in_default : goal.returns-in_default
+returns-in_default c = sym (got_none _ _ (sym c.look_at.ensures ∙ c.in_default.is))
+
+pub overflow_add-result : goal.overflow_add-result
+overflow_add-result c = omega (arith, at_width _ _ (found c))
+
+pub returns : goal.returns
+returns c = sym (got _ _ (found c))

@@ -1,0 +1,6 @@
+-- The cursor is made of the offset and the place.
+use borrow.Author.Rules.{rules}
+use Rattle.chars.proofs.stretch.behind.Goals as goal
+
+pub returns : goal.returns
+returns c = rw c.advanced_by-place.ensures

@@ -1,0 +1,26 @@
+-- What is still to be spelt goes where the whole was to go: the stores left from here are those of the start.
+use Prim.Native.Nat.{◌≤◌, ◌-◌, ◌+◌}
+use mathlib.Core.Path.{◌≡◌, refl, sym, ◌∙◌}
+use native.Mathlib.Omega.{arith}
+use borrow.Author.Rules.{rules}
+use lib.ListN.{length, length-set}
+use lib.Seq.{sets}
+use Rattle.basis.proofs.Stores.{stored_whole, after_whole, stored_none, after_none}
+use Rattle.numbers.specs.Spell.{spell}
+use Rattle.numbers.proofs.Rows.{length_spell, sets_spell, sets_spelt}
+use Rattle.numbers.proofs.put.Goals as goal
+
+pub returns-then-out-at : goal.returns-then-out-at
+returns-then-out-at c = record { value = sym (after_none _ _ _ (omega arith)); out_after = sym (stored_none _ _ _ (omega arith)) }
+
+pub returns-then-out-at-2 : goal.returns-then-out-at-2
+returns-then-out-at-2 c = record { value = sym (after_none _ _ _ (rw (length_spell _ _) (omega arith))); out_after = sym (stored_none _ _ _ (rw (length_spell _ _) (omega arith))) }
+
+pub loop-left-init : goal.loop-left-init
+loop-left-init c = (search rules, refl, omega arith, refl)
+
+pub loop-left-preserved : goal.loop-left-preserved
+loop-left-preserved c = (omega arith, simp length-set (omega arith), c.loop-left.invariant.2, c.loop-left.invariant.3 ∙ sets_spell _ _ _ _ c.loop-left-test.true)
+
+pub returns : goal.returns
+returns c = record { value = sym (after_whole _ _ _ (rw (length_spell _ _) c.loop-left.invariant.2) ∙ rw (length_spell _ _) (omega arith)); out_after = sym (stored_whole _ _ _ (rw (length_spell _ _) c.loop-left.invariant.2) ∙ c.loop-left.invariant.3 ∙ sets_spelt _ _ _ _ c.loop-left-test.false) }
