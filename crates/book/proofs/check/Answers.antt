@@ -8,6 +8,7 @@ use borrow.Author.Rules.{rules}
 use Rattle.book.specs.Contents.{word_count, bodies, enough}
 use Rattle.book.proofs.contents.Parts.{is_short, is_count, is_enough, has_rows}
 use Rattle.book.proofs.Checks.{not_enough, too_many, not_running, not_all_fit, not_rising, all_right}
+use Rattle.std.proofs.lemmas.Bool.{not_from_false, not_from_true}
 use Rattle.book.proofs.check.Goals as goal
 use Rattle.book.proofs.check.Goals.{In-Counted}
 
@@ -39,22 +40,22 @@ runs_on-requires c = (counted (goal.at.runs_on-requires c).In-Counted, c.if-n-gt
 
 pub returns-then-not-runs_on : goal.returns-then-not-runs_on
 returns-then-not-runs_on c =
-    not_running _ (full (goal.at.returns-then-not-runs_on c).In-Counted) _ (counted (goal.at.returns-then-not-runs_on c).In-Counted) c.if-n-gt512.false _ c.runs_on.ensures c.if-not-runs_on.true
+    not_running _ (full (goal.at.returns-then-not-runs_on c).In-Counted) _ (counted (goal.at.returns-then-not-runs_on c).In-Counted) c.if-n-gt512.false _ c.runs_on.ensures (not_from_false _ c.if-not-runs_on.true)
 
 pub all_fit-requires : goal.all_fit-requires
 all_fit-requires c = (counted (goal.at.all_fit-requires c).In-Counted, rows (goal.at.all_fit-requires c).In-Counted)
 
 pub returns-then-not-all_fit : goal.returns-then-not-all_fit
 returns-then-not-all_fit c =
-    not_all_fit _ (full (goal.at.returns-then-not-all_fit c).In-Counted) _ (counted (goal.at.returns-then-not-all_fit c).In-Counted) c.if-n-gt512.false _ c.runs_on.ensures c.if-not-runs_on.false _ c.all_fit.ensures c.if-not-all_fit.true
+    not_all_fit _ (full (goal.at.returns-then-not-all_fit c).In-Counted) _ (counted (goal.at.returns-then-not-all_fit c).In-Counted) c.if-n-gt512.false _ c.runs_on.ensures (not_from_true _ c.if-not-runs_on.false) _ c.all_fit.ensures (not_from_false _ c.if-not-all_fit.true)
 
 pub is_rising-requires : goal.is_rising-requires
 is_rising-requires c = (counted (goal.at.is_rising-requires c).In-Counted, rows (goal.at.is_rising-requires c).In-Counted)
 
 pub returns-then-not-is_rising : goal.returns-then-not-is_rising
 returns-then-not-is_rising c =
-    not_rising _ (full (goal.at.returns-then-not-is_rising c).In-Counted) _ (counted (goal.at.returns-then-not-is_rising c).In-Counted) c.if-n-gt512.false _ c.runs_on.ensures c.if-not-runs_on.false _ c.all_fit.ensures c.if-not-all_fit.false _ c.is_rising.ensures c.if-not-is_rising.true
+    not_rising _ (full (goal.at.returns-then-not-is_rising c).In-Counted) _ (counted (goal.at.returns-then-not-is_rising c).In-Counted) c.if-n-gt512.false _ c.runs_on.ensures (not_from_true _ c.if-not-runs_on.false) _ c.all_fit.ensures (not_from_true _ c.if-not-all_fit.false) _ c.is_rising.ensures (not_from_false _ c.if-not-is_rising.true)
 
 pub returns : goal.returns
 returns c =
-    all_right _ (full (goal.at.returns c).In-Counted) _ (counted (goal.at.returns c).In-Counted) c.if-n-gt512.false _ c.runs_on.ensures c.if-not-runs_on.false _ c.all_fit.ensures c.if-not-all_fit.false _ c.is_rising.ensures c.if-not-is_rising.false
+    all_right _ (full (goal.at.returns c).In-Counted) _ (counted (goal.at.returns c).In-Counted) c.if-n-gt512.false _ c.runs_on.ensures (not_from_true _ c.if-not-runs_on.false) _ c.all_fit.ensures (not_from_true _ c.if-not-all_fit.false) _ c.is_rising.ensures (not_from_true _ c.if-not-is_rising.false)

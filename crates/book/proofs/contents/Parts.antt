@@ -6,7 +6,7 @@ use mathlib.Core.Bool.{Bool, true, false}
 use mathlib.Core.List.{List, []}
 use mathlib.Core.Path.{◌≡◌, refl}
 use lib.ListN.{length, get_or, take, drop, length-drop}
-use lib.Seq.{take_all, take_nil}
+use lib.Seq.{take_all, take-nil}
 use borrow.Author.Tests.{le-leb, lt-leb, leb-true}
 use Rattle.basis.specs.Pick.{pick}
 use Rattle.basis.proofs.Bytes.{past}
@@ -82,7 +82,7 @@ module _ (book : List ℕ) (k s z : ℕ) (e : s ≡ start_at book k) (d : z ≡ 
   -- a body that would start past the end, one that would end there, and one that lies in the book
   pub past_end : length book < s → ◌≡◌ {A = List ℕ} [] (word_at book k).text
   unfolding word_at
-  past_end h = rw (← e, ← d, past book s (omega arith), take_nil)
+  past_end h = rw (← e, ← d, past book s (omega arith), take-nil)
 
   pub cut_off_lem : length book - s < z → take (length book - s) (drop s book) ≡ (word_at book k).text
   unfolding word_at

@@ -15,7 +15,7 @@ returns-then-start-at c =
 pub loop-k-preserved : goal.loop-k-preserved
 loop-k-preserved c =
     let row = c.row_at-row.ensures in
-    running_next _ _ _ _ c.loop-k.invariant c.loop-k-test.true _ (row_start _ _ _ row.0) _ c.if-start-at.false (row_size _ _ _ row.0) row.1.1
+    running_next _ _ _ _ c.loop-k.invariant c.loop-k-test.true _ (row_start _ _ _ row.value) _ c.if-start-at.false (row_size _ _ _ row.value) row.start_bound.1
 
 pub returns : goal.returns
 returns c = running_end _ _ _ _ c.loop-k.invariant c.loop-k-test.false

@@ -45,13 +45,13 @@ pub overflow_cast-x : goal.overflow_cast-x
 overflow_cast-x c = omega (arith, c.shared_slice_known-in-loop-at-1.given c.loop-at.at)
 
 pub returns-then-x-le127 : goal.returns-then-x-le127
-returns-then-x-le127 c = let i = c.loop-at.invariant in record { stretch_of = ((i.0, (i.1, λ z s. absurd (low-is-not-first c.args.text.now c.args.from c.loop-at.at c.requires.2 c.if-x-le127.true (i.2 z))))).0; at_le_stop = ((i.0, (i.1, λ z s. absurd (low-is-not-first c.args.text.now c.args.from c.loop-at.at c.requires.2 c.if-x-le127.true (i.2 z))))).1; from_value = ((i.0, (i.1, λ z s. absurd (low-is-not-first c.args.text.now c.args.from c.loop-at.at c.requires.2 c.if-x-le127.true (i.2 z))))).2 }
+returns-then-x-le127 c = let i = c.loop-at.invariant in record { stretch_of = i.0; at_le_stop = i.1; from_value = λ z s. absurd (low-is-not-first c.args.text.now c.args.from c.loop-at.at c.requires.2 c.if-x-le127.true (i.2 z)) }
 
 pub width-w-requires : goal.width-w-requires
 width-w-requires c = (inside (goal.at.width-w-requires c).At-loop-at c.loop-at-test.true, refl, omega (arith, c.if-x-le127.false), c.loop-at.invariant.1)
 
 pub returns-then-w-eq0 : goal.returns-then-w-eq0
-returns-then-w-eq0 c = let i = c.loop-at.invariant in record { stretch_of = ((i.0, (i.1, λ z s. ap (look_at c.args.text.now) (sym (i.2 z)) ∙ c.width-w.ensures.at_value c.if-w-eq0.true s))).0; at_le_stop = ((i.0, (i.1, λ z s. ap (look_at c.args.text.now) (sym (i.2 z)) ∙ c.width-w.ensures.at_value c.if-w-eq0.true s))).1; from_value = ((i.0, (i.1, λ z s. ap (look_at c.args.text.now) (sym (i.2 z)) ∙ c.width-w.ensures.at_value c.if-w-eq0.true s))).2 }
+returns-then-w-eq0 c = let i = c.loop-at.invariant in record { stretch_of = i.0; at_le_stop = i.1; from_value = λ z s. ap (look_at c.args.text.now) (sym (i.2 z)) ∙ c.width-w.ensures.at_value c.if-w-eq0.true s }
 
 pub overflow_add-at : goal.overflow_add-at
 overflow_add-at c = omega (arith, some (goal.at.overflow_add-at c).After-width-w c.if-w-eq0.false)
@@ -68,4 +68,4 @@ loop-at-preserved c =
     (more c.loop-at.invariant.0 x.found x.is, x.fits, λ z. absurd (omega (arith, z)))
 
 pub returns : goal.returns
-returns c = let i = c.loop-at.invariant in record { stretch_of = ((i.0, (i.1, λ z s. absurd (omega (arith, i.2 z, c.loop-at-test.false, c.requires.0))))).0; at_le_stop = ((i.0, (i.1, λ z s. absurd (omega (arith, i.2 z, c.loop-at-test.false, c.requires.0))))).1; from_value = ((i.0, (i.1, λ z s. absurd (omega (arith, i.2 z, c.loop-at-test.false, c.requires.0))))).2 }
+returns c = let i = c.loop-at.invariant in record { stretch_of = i.0; at_le_stop = i.1; from_value = λ z s. absurd (omega (arith, i.2 z, c.loop-at-test.false, c.requires.0)) }

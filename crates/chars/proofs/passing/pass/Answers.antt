@@ -39,7 +39,7 @@ module _ (w : After-high-run) where
   some = stretch_low run
 
   ends : w.high-run.result.at ≤ w.last-stop.result
-  ends = w.high-run.ensures.at_le_stop.0
+  ends = w.high-run.ensures.at_le_stop
 
 pub loop-at-init : goal.loop-at-init
 loop-at-init c = (let z : c.args.from - c.args.from - 0 ≡ 0 = omega arith in no_more z, omega arith, c.last-stop.ensures.0)

@@ -24,7 +24,7 @@ module _ (k : After-high-run) where
   run = k.high-run.ensures.stretch_of
 
   ends : k.high-run.result.at ≤ length text
-  ends = k.high-run.ensures.at_le_stop.0
+  ends = k.high-run.ensures.at_le_stop
 
 pub loop-at-init : goal.loop-at-init
 loop-at-init c = none
@@ -56,7 +56,7 @@ high-run-requires c = (c.loop-at-test.true, omega arith, c.if-x-lt128.false)
 -- no character, or longer ones
 pub returns-then-run-eq0 : goal.returns-then-run-eq0
 returns-then-run-eq0 c =
-    ends_there Line _ c.loop-at.invariant (c.high-run.ensures.at_le_stop.1 c.if-run-eq0.true refl)
+    ends_there Line _ c.loop-at.invariant (c.high-run.ensures.from_value c.if-run-eq0.true refl)
 
 pub overflow_add-count-else-x-lt128 : goal.overflow_add-count-else-x-lt128
 overflow_add-count-else-x-lt128 c = omega (arith, ends (goal.at.overflow_add-count-else-x-lt128 c).After-high-run, stretch_low (run (goal.at.overflow_add-count-else-x-lt128 c).After-high-run), stretch_low c.loop-at.invariant)
