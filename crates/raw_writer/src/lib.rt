@@ -39,7 +39,7 @@ fn larger(a: usize, b: usize) -> usize
 // long, and n + 1 hashes are then enough.
 fn hashes_for(body: &[u8]) -> usize
     requires { length body.now ≤ 16777216 }
-    ensures { result ≡ hashesFor body.now }
+    ensures { result ≡ hashes_for body.now }
 {
     let mut hashes: usize = 1;
     let mut held: usize = 0;
@@ -54,8 +54,8 @@ fn hashes_for(body: &[u8]) -> usize
 
 // Writes the literal to the front of what is lent.
 fn write(body: &[u8], hashes: usize, out: &mut [u8])
-    requires { (hashes ≡ hashesFor body.now) × (length (rawLiteralOf body.now) ≤ length out.old) }
-    ensures { out.new ≡ over (rawLiteralOf body.now) out.old }
+    requires { (hashes ≡ hashes_for body.now) × (length (raw_literal_of body.now) ≤ length out.old) }
+    ensures { out.new ≡ over (raw_literal_of body.now) out.old }
 {
     let opened = lent::fill(b'#', hashes, &mut *out, 0);
     let begun = lent::fill(b'"', 1, &mut *out, opened);

@@ -1,0 +1,69 @@
+-- Each way out is one law of the turn; a pair that was eaten, and what is behind it, is told by `eat_if`.
+use Prim.Native.Nat.{ℕ, ◌≤◌, ◌<◌}
+use native.Mathlib.Omega.{arith}
+use mathlib.Core.List.{List}
+use mathlib.Core.Path.{◌≡◌, sym, ◌∙◌}
+use lib.ListN.{length}
+use borrow.Author.Rules.{rules}
+use Rattle.chars.specs.Cursors.{eat_next_of}
+use Rattle.chars.specs.declared.cursor.Cursor.{Cursor}
+use Rattle.chars.specs.declared.cursor.Taken.TheVariants.{Char}
+use Rattle.comment.specs.Step.{eat_if_of, LevelFits}
+use Rattle.comment.proofs.scan.Turns.{further_on, still_fine, twice_on, ends, slash, opens, star, closes_last, closes, new_line, plain}
+use Rattle.comment.proofs.scan.turn.Goals as goal
+use Rattle.comment.proofs.scan.turn.Goals.{In-Char, In-Char-eat_if, In-Char-eat_if-2}
+
+-- the character that was taken
+module _ (k : In-Char) where
+  abbrev text : List ℕ
+  text = k.args.text.now
+
+  abbrev from : Cursor
+  from = k.args.from
+
+  abbrev next : Cursor
+  next = k.in-Char.next
+
+  ate : eat_next_of text from ≡ Char k.in-Char.c next
+  ate = sym k.eat_next_and_advance.ensures ∙ k.in-Char.is
+
+  moved : (from.at < next.at) × (next.at ≤ length text)
+  moved = further_on text from ate
+
+  -- where a turn may go
+  fine : LevelFits (length text) k.args.level from
+  fine = k.requires
+
+-- the pair that was eaten: it opens
+module _ (k : In-Char-eat_if) where
+  opened : eat_if_of k.args.text.now k.in-Char.next 0x2A ≡ Char k.in-Char-eat_if.field-0 k.in-Char-eat_if.after
+  opened = sym k.eat_if.ensures ∙ k.in-Char-eat_if.is
+
+-- or it closes
+module _ (k : In-Char-eat_if-2) where
+  closed : eat_if_of k.args.text.now k.in-Char.next 0x2F ≡ Char k.in-Char-eat_if-2.field-0 k.in-Char-eat_if-2.after
+  closed = sym k.eat_if-then-c-eq-STAR.ensures ∙ k.in-Char-eat_if-2.is
+
+pub returns-in_default : goal.returns-in_default
+returns-in_default c = record { value = ends _ _ _ (sym c.eat_next_and_advance.ensures ∙ c.in_default.is); turn_fits = tt }
+
+pub returns-in_default-eat_if : goal.returns-in_default-eat_if
+returns-in_default-eat_if c = record { value = slash _ _ _ (ate (goal.at.returns-in_default-eat_if c).In-Char) c.if-c-eq-SLASH.true (sym c.eat_if.ensures ∙ c.in_default-eat_if.is); turn_fits = still_fine _ _ _ (fine (goal.at.returns-in_default-eat_if c).In-Char) (moved (goal.at.returns-in_default-eat_if c).In-Char) (fine (goal.at.returns-in_default-eat_if c).In-Char).low (omega arith) }
+
+pub returns-then-c-eq-SLASH : goal.returns-then-c-eq-SLASH
+returns-then-c-eq-SLASH c = record { value = opens _ _ _ (ate (goal.at.returns-then-c-eq-SLASH c).In-Char) c.if-c-eq-SLASH.true (opened c); turn_fits = still_fine _ _ _ (fine (goal.at.returns-then-c-eq-SLASH c).In-Char) (twice_on _ _ _ 0x2A (moved (goal.at.returns-then-c-eq-SLASH c).In-Char) (opened c)) (omega arith) (omega arith) }
+
+pub returns-in_default-eat_if-2 : goal.returns-in_default-eat_if-2
+returns-in_default-eat_if-2 c = record { value = star _ _ _ (ate (goal.at.returns-in_default-eat_if-2 c).In-Char) c.if-c-eq-STAR.true (sym c.eat_if-then-c-eq-STAR.ensures ∙ c.in_default-eat_if-2.is); turn_fits = still_fine _ _ _ (fine (goal.at.returns-in_default-eat_if-2 c).In-Char) (moved (goal.at.returns-in_default-eat_if-2 c).In-Char) (fine (goal.at.returns-in_default-eat_if-2 c).In-Char).low (omega arith) }
+
+pub returns-then-level-eq1 : goal.returns-then-level-eq1
+returns-then-level-eq1 c = record { value = closes_last _ _ _ (ate (goal.at.returns-then-level-eq1 c).In-Char) c.if-c-eq-STAR.true (closed (goal.at.returns-then-level-eq1 c).In-Char-eat_if-2) c.if-level-eq1.true; turn_fits = tt }
+
+pub returns-then-c-eq-STAR : goal.returns-then-c-eq-STAR
+returns-then-c-eq-STAR c = record { value = closes _ _ _ (ate (goal.at.returns-then-c-eq-STAR c).In-Char) c.if-c-eq-STAR.true (closed (goal.at.returns-then-c-eq-STAR c).In-Char-eat_if-2) c.if-level-eq1.false; turn_fits = still_fine _ _ _ (fine (goal.at.returns-then-c-eq-STAR c).In-Char) (twice_on _ _ _ 0x2F (moved (goal.at.returns-then-c-eq-STAR c).In-Char) (closed (goal.at.returns-then-c-eq-STAR c).In-Char-eat_if-2)) (omega (arith, fine (goal.at.returns-then-c-eq-STAR c).In-Char, c.if-level-eq1.false)) (omega arith) }
+
+pub returns-then-c-eq-LF : goal.returns-then-c-eq-LF
+returns-then-c-eq-LF c = record { value = rw c.lined-place.ensures (new_line _ _ _ (ate (goal.at.returns-then-c-eq-LF c).In-Char) c.if-c-eq-LF.true); turn_fits = still_fine _ _ _ (fine (goal.at.returns-then-c-eq-LF c).In-Char) (moved (goal.at.returns-then-c-eq-LF c).In-Char) (fine (goal.at.returns-then-c-eq-LF c).In-Char).low (omega arith) }
+
+pub returns : goal.returns
+returns c = record { value = plain _ _ _ (ate (goal.at.returns c).In-Char) c.if-c-eq-SLASH.false c.if-c-eq-STAR.false c.if-c-eq-LF.false; turn_fits = still_fine _ _ _ (fine (goal.at.returns c).In-Char) (moved (goal.at.returns c).In-Char) (fine (goal.at.returns c).In-Char).low (omega arith) }

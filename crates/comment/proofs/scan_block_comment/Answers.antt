@@ -1,0 +1,15 @@
+-- Refused arguments are refused; all others are scanned.
+use mathlib.Core.Path.{ap, ◌∙◌}
+use borrow.Author.Rules.{rules}
+use Rattle.comment.specs.declared.scan.Commented.TheVariants.{Done}
+use Rattle.comment.proofs.Refusals.{nothing_refused, refused, done}
+use Rattle.comment.proofs.scan_block_comment.Goals as goal
+
+pub returns-then-number-ne0 : goal.returns-then-number-ne0
+returns-then-number-ne0 c = rw c.at.ensures (refused _ _ _ _ c.refuses-number.ensures c.if-number-ne0.true)
+
+pub scan-requires : goal.scan-requires
+scan-requires c = nothing_refused _ _ _ _ c.refuses-number.ensures c.if-number-ne0.false
+
+pub returns : goal.returns
+returns c = ap Done c.scan.ensures ∙ done _ _ _ _ c.refuses-number.ensures c.if-number-ne0.false

@@ -1,0 +1,6 @@
+-- The record, with the fault that was made.
+use borrow.Author.Rules.{rules}
+use Rattle.literal.proofs.Scanned.as_given.Goals as goal
+
+pub returns : goal.returns
+returns c = rw c.at.ensures
