@@ -1,0 +1,13 @@
+-- What the digits gave is told apart as the definition does.
+use borrow.Author.Rules.{rules}
+use Rattle.escape.proofs.Ways.{digits_scalar, digits_none, digits_bad}
+use Rattle.escape.proofs.number.Goals as goal
+
+pub returns-then-is_scalar : goal.returns-then-is_scalar
+returns-then-is_scalar c = search digits_scalar
+
+pub returns-else-is_scalar : goal.returns-else-is_scalar
+returns-else-is_scalar c = search digits_none
+
+pub returns-in-Bad : goal.returns-in-Bad
+returns-in-Bad c = search digits_bad

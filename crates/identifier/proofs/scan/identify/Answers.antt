@@ -1,0 +1,70 @@
+-- The first character is taken whichever it is; what goes on behind it is passed; what stands between is classified.
+use Prim.Native.Nat.{ℕ, ◌≤◌}
+use native.Mathlib.Omega.{arith}
+use mathlib.Core.List.{List}
+use mathlib.Core.Path.{◌≡◌, sym, ap, ◌∙◌}
+use borrow.Author.Rules.{rules}
+use lib.ListN.{length}
+use Rattle.chars.specs.Cursors.{get_next_of}
+use Rattle.chars.specs.declared.cursor.Cursor.{Cursor}
+use Rattle.chars.specs.declared.cursor.Taken.TheVariants as taken
+use Rattle.identifier.specs.Identifiers.{identified_as, spanned, identify_of, class_of, text_between}
+use Rattle.identifier.proofs.scan.Answers.{nothing-there, begins-here, first-within}
+use Rattle.identifier.proofs.scan.identify.Goals as goal
+use Rattle.identifier.proofs.scan.identify.Goals.{After-end_of-end}
+
+-- the first character, and the end
+module _ (k : After-end_of-end) where
+  abbrev text : List ℕ
+  text = k.args.text.now
+
+  abbrev book : List ℕ
+  book = k.args.book.now
+
+  abbrev start : Cursor
+  start = k.args.start
+
+  abbrev first : Cursor
+  first = k.in-Char.first
+
+  got : get_next_of text start ≡ taken.Char k.in-Char.field-0 first
+  got = sym k.get_next.ensures ∙ k.in-Char.is
+
+  abbrev end : Cursor
+  end = k.end_of-end.result
+
+  room : (start.at ≤ end.at) × (end.at ≤ length text)
+  room =
+      let f = first-within text book start got in
+      (omega (arith, f.0, k.end_of-end.ensures.at_le_at.0), k.end_of-end.ensures.at_le_at.1 f.1)
+
+  -- the answer, by the class of what stands between
+  whole : identify_of text book start ≡ identified_as start end (class_of book (text_between text start end))
+  unfolding spanned
+  whole = begins-here text book start got ∙ ap (spanned text book start) (sym k.end_of-end.ensures.value)
+
+pub returns-in_default : goal.returns-in_default
+returns-in_default c =
+    rw c.at.ensures (sym (nothing-there _ _ _ (sym c.get_next.ensures ∙ c.in_default.is)))
+
+pub slice_bounds-class_of-count : goal.slice_bounds-class_of-count
+slice_bounds-class_of-count c = omega (arith, room c)
+
+pub slice_bounds-class_of-start : goal.slice_bounds-class_of-start
+slice_bounds-class_of-start c = omega (arith, room c)
+
+pub slice_bounds-class_of-end : goal.slice_bounds-class_of-end
+slice_bounds-class_of-end c = omega (arith, room c)
+
+pub overflow_sub-part : goal.overflow_sub-part
+overflow_sub-part c = omega (arith, room (goal.at.overflow_sub-part c).After-end_of-end)
+
+pub returns-in_default-class_of : goal.returns-in_default-class_of
+unfolding identified_as
+returns-in_default-class_of c =
+    rw c.about.ensures (sym (whole (goal.at.returns-in_default-class_of c).After-end_of-end ∙ ap (identified_as c.args.start c.end_of-end.result) (sym c.class_of.ensures ∙ c.in_default-class_of.is)))
+
+pub returns : goal.returns
+unfolding identified_as
+returns c =
+    sym (whole (goal.at.returns c).After-end_of-end ∙ ap (identified_as c.args.start c.end_of-end.result) (sym c.class_of.ensures ∙ c.in-Is.is))

@@ -1,0 +1,6 @@
+-- The record, with the fault that was made.
+use borrow.Author.Rules.{rules}
+use Rattle.raw.proofs.open.refuse.Goals as goal
+
+pub returns : goal.returns
+returns c = rw c.about.ensures

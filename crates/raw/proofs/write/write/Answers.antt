@@ -1,0 +1,30 @@
+-- The body stands in the text where the opening leads to, and is copied from there.
+use Prim.Native.Nat.{◌+◌, ◌≤◌}
+use native.Mathlib.Omega.{arith}
+use lib.ListN.{length}
+use borrow.Author.Rules.{rules}
+use Rattle.raw.specs.Raw.{as_source}
+use Rattle.raw.proofs.write.Parts.{nothing_to_write, reaches, written}
+use Rattle.raw.proofs.write.write.Goals as goal
+use Rattle.raw.proofs.write.write.Goals.{In-At}
+
+-- the body that was found
+module _ (k : In-At) where
+  within : k.in-At.from.at + k.args.len ≤ length k.args.text.now
+  within = reaches as_source _ _ _ k.«open».ensures k.in-At.is k.requires.1 k.requires.0
+
+pub returns-in_default : goal.returns-in_default
+returns-in_default c = nothing_to_write as_source _ _ _ c.«open».ensures c.in_default.is _
+
+pub overflow_add-at : goal.overflow_add-at
+overflow_add-at c = omega (arith, within c)
+
+pub slice_bounds-copy-start : goal.slice_bounds-copy-start
+slice_bounds-copy-start c = omega (arith, within c)
+
+pub slice_bounds-copy-end : goal.slice_bounds-copy-end
+slice_bounds-copy-end c = within c
+
+pub returns : goal.returns
+returns c =
+    written as_source _ _ _ c.«open».ensures c.in-At.is c.requires.1 _ c.requires.2 c.copy.ensures.out_after
