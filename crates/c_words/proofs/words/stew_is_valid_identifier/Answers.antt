@@ -1,0 +1,6 @@
+-- It is what the call answers.
+use borrow.Author.Rules.{rules}
+use Rattle.c_words.proofs.words.stew_is_valid_identifier.Goals as goal
+
+pub returns : goal.returns
+returns c = c.is_valid_identifier.ensures

@@ -1,0 +1,19 @@
+-- Each return is a law of proofs/Acts.antt on the terminator.
+use borrow.Author.Rules.{rules}
+use Rattle.string_turn.proofs.act.Acts.{terminator_last, terminator_doubled, terminator_alone, terminator_escaped, no_terminator}
+use Rattle.string_turn.proofs.act.close.Goals as goal
+
+pub returns-in_default : goal.returns-in_default
+returns-in_default c = search terminator_last
+
+pub returns-then-d-q : goal.returns-then-d-q
+returns-then-d-q c = search terminator_doubled
+
+pub returns-then-is_empty : goal.returns-then-is_empty
+returns-then-is_empty c = search terminator_alone
+
+pub returns-then-c-q : goal.returns-then-c-q
+returns-then-c-q c = search terminator_escaped
+
+pub returns : goal.returns
+returns c = search no_terminator
