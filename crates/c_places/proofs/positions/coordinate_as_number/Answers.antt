@@ -1,0 +1,12 @@
+-- Each arm is the definition at its case.
+use borrow.Author.Rules.{rules}
+use Rattle.c_places.specs.PlaceNumbers.{coordinate_as_number}
+use Rattle.c_places.proofs.positions.coordinate_as_number.Goals as goal
+
+pub returns-in-Some : goal.returns-in-Some
+unfolding coordinate_as_number
+returns-in-Some c = rw c.in-Some.is
+
+pub returns-in-None : goal.returns-in-None
+unfolding coordinate_as_number
+returns-in-None c = rw c.in-None.is

@@ -1,0 +1,13 @@
+-- Each return is a law of proofs/Turning.antt on how a scan is over.
+use borrow.Author.Rules.{rules}
+use Rattle.string.proofs.scan.Turning.{over_limit, accepted, refuses}
+use Rattle.string.proofs.scan.answered.Goals as goal
+
+pub returns-then-is_over : goal.returns-then-is_over
+returns-then-is_over c = search over_limit
+
+pub returns-in-Good : goal.returns-in-Good
+returns-in-Good c = search accepted
+
+pub returns-in-Bad : goal.returns-in-Bad
+returns-in-Bad c = search refuses
