@@ -1,0 +1,18 @@
+-- Too short a memory for the row leaves both; else the scan is answered by its row.
+use borrow.Author.Rules.{rules}
+use Rattle.c_scanners.proofs.literals.Rows.{too_short, in_full}
+use Rattle.raw.specs.Raw.{as_source}
+use Rattle.raw.specs.Entries.{parse_trace, parse_of}
+use Rattle.c_scanners.specs.RawScans.{raw_parsing, raw_parsed}
+use Rattle.c_scanners.proofs.raws.stew_parse_raw_string_literal.Goals as goal
+
+pub returns-then-answer-lt88 : goal.returns-then-answer-lt88
+unfolding raw_parsing raw_parsed
+returns-then-answer-lt88 c =
+    rw (← c.given-place.ensures) (too_short (parse_of as_source _ _ _ _ _) _ c.if-answer-lt88.true {e = parse_of as_source _ _ _ _ _} c.parse_raw_string_literal.ensures.value c.short_number.ensures (parse_trace as_source _ _ _) _)
+
+pub returns : goal.returns
+unfolding raw_parsing raw_parsed
+returns c =
+    rw (← c.given-place.ensures)
+    (in_full (parse_of as_source _ _ _ _ _) _ c.if-answer-lt88.false _ (parse_trace as_source _ _ _) c.parse_raw_string_literal-scanned.ensures.value c.parse_raw_string_literal-scanned.ensures.out_after c.answer.ensures.value c.answer.ensures.memory_after)
