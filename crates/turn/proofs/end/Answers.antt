@@ -1,0 +1,10 @@
+-- The end, or 11.
+use borrow.Author.Rules.{rules}
+use Rattle.turn.proofs.Stepping.{end_here, end_open}
+use Rattle.turn.proofs.end.Goals as goal
+
+pub returns-then-level-eq0 : goal.returns-then-level-eq0
+returns-then-level-eq0 c = λ braces. rw c.over.ensures (end_here _ _ _ _ c.if-level-eq0.true, tt)
+
+pub returns : goal.returns
+returns c = λ braces. rw c.stop.ensures (end_open _ _ _ _ c.if-level-eq0.false, tt)
