@@ -46,12 +46,9 @@ module _ (k : Start) where
 -- one that stands aside
 module _ (c : Then-len-le-ASIDE) where
   stands : c.args.aside.now ≡ over (bytes (literal_trace document01 c.args.text.now c.args.read.opener c.args.read.from)) c.args.aside.now
-  stands = c.requires.kept c.if-read-eq-HASH.false (omega (
-    arith,
-    c.if-len-le-ASIDE.true,
-    (let w = accepted_whole (full c.args.read.from) c.args.room.bounds.limit (c.args.room.bounds.literals - c.args.room.used) trace c.args.read.end c.args.read.len c.requires.accepted in
-        (w.0, omega (arith, w.0, w.1, c.requires.used, c.requires.lent))).0,
-  ))
+  stands =
+      let w = accepted_whole (full c.args.read.from) c.args.room.bounds.limit (c.args.room.bounds.literals - c.args.room.used) (literal_trace document01 c.args.text.now c.args.read.opener c.args.read.from) c.args.read.end c.args.read.len c.requires.accepted in
+      c.requires.kept c.if-read-eq-HASH.false (omega (arith, c.if-len-le-ASIDE.true, w.0))
 
 pub write-requires : goal.write-requires
 write-requires c =
