@@ -1,0 +1,6 @@
+-- The memory for entries is that of bytes.
+use borrow.Author.Rules.{rules}
+use Rattle.run.proofs.bytes.run.Goals as goal
+
+pub returns : goal.returns
+returns c = c.run_as.ensures
