@@ -1,0 +1,21 @@
+-- The lines that are left go where all were to go.
+use Prim.Native.Nat.{◌-◌, ◌*◌, ◌≤◌}
+use mathlib.Core.Path.{◌≡◌, refl, sym, ◌∙◌}
+use native.Mathlib.Nat.{sub-zero}
+use lib.ListN.{length, drop}
+use borrow.Author.Rules.{rules}
+use Rattle.listed.specs.Texts.{writing, puts}
+use Rattle.listed.specs.Listing.{entries_lines}
+use Rattle.listed.proofs.Puts.{puts_none}
+use Rattle.listed.proofs.Lines.{lines_next, lines_past}
+use Rattle.listed.proofs.put_entries.Goals as goal
+
+pub loop-n-init : goal.loop-n-init
+loop-n-init c = (search rules, refl, rw sub-zero)
+
+pub loop-n-preserved : goal.loop-n-preserved
+loop-n-preserved c =
+    (search rules, search rules, c.loop-n.invariant.2 ∙ lines_next _ _ _ _ _ _ c.loop-n-test.true c.put_entry-at.ensures)
+
+pub returns : goal.returns
+returns c = sym (c.loop-n.invariant.2 ∙ rw (lines_past _ _ _ _ _ c.loop-n-test.false) (puts_none _))

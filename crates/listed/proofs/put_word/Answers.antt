@@ -1,0 +1,7 @@
+-- The copy tells it.
+use borrow.Author.Rules.{rules}
+use Rattle.listed.proofs.Puts.{put_told}
+use Rattle.listed.proofs.put_word.Goals as goal
+
+pub returns : goal.returns
+returns c = put_told _ _ _ c.copy.ensures.value c.copy.ensures.out_after

@@ -1,0 +1,10 @@
+-- The door's number, or 9.
+use borrow.Author.Rules.{rules}
+use Rattle.stew.proofs.runs.Ways.{no_fault, own_fault}
+use Rattle.stew.proofs.runs.short_number.Goals as goal
+
+pub returns-then-number-eq0 : goal.returns-then-number-eq0
+returns-then-number-eq0 c = no_fault _ _ c.refuses-number.ensures c.if-number-eq0.true
+
+pub returns : goal.returns
+returns c = own_fault _ _ c.refuses-number.ensures c.if-number-eq0.false
