@@ -4,6 +4,7 @@ use mathlib.Core.List.{List, ◌++◌}
 use mathlib.Core.Path.{◌≡◌}
 use lib.ListN.{length}
 use contract.Lifetimes.{Lfts}
+use denote.MutBor.{MutBor}
 use denote.Ref.{Bor}
 use Rattle.position.specs.declared.Position.{Position}
 use Rattle.lent.specs.declared.Written.{Written}
@@ -17,7 +18,8 @@ use Rattle.promises.proofs.RoundTrip.{round_trip}
 -- `raw_write` was lent a body and a buffer and answered w; then `parse_raw_string_literal` was lent a text with what was made in it, an offset, a place, a limit and another buffer, and answered r
 module _
     (κs ιs : Lfts 2)
-    (body body' lent lent' text text' buffer buffer' : Bor (List ℕ))
+    (body body' text text' : Bor (List ℕ))
+    (lent lent' buffer buffer' : MutBor (List ℕ))
     (w : Written)
     (at at' limit limit' : ℕ)
     (start start' : Position)

@@ -7,6 +7,7 @@ use lib.ListN.{length, take, drop, length-append}
 use lib.Seq.{take_at}
 use borrow.Author.Tests.{le-ltb}
 use contract.Lifetimes.{Lfts}
+use denote.MutBor.{MutBor}
 use denote.Ref.{Bor}
 use Rattle.basis.specs.Store.{over}
 use Rattle.numbers.specs.Spell.{spell, spelled}
@@ -109,7 +110,8 @@ module _ (script book : List ℕ) where
 -- `run` was lent a script, a book, a limit and two memories, and answered r
 module _
     (κs : Lfts 4)
-    (script script' book book' literals literals' memory memory' : Bor (List ℕ))
+    (script script' book book' : Bor (List ℕ))
+    (literals literals' memory memory' : MutBor (List ℕ))
     (limit limit' : ℕ)
     (r : Ran)
     (call : rattle.Learnt κs (script, (book, (limit, (literals, (memory, tt))))) r (script', (book', (limit', (literals', (memory', tt)))))) where
@@ -128,10 +130,12 @@ module _
 -- `run` was lent a script, a book, a limit and two memories, and answered r; and the same script and book again, another limit and two other memories, and answered s
 module _
     (κs ιs : Lfts 4)
-    (script script' book book' literals literals' memory memory' : Bor (List ℕ))
+    (script script' book book' : Bor (List ℕ))
+    (literals literals' memory memory' : MutBor (List ℕ))
     (limit limit' : ℕ)
     (r : Ran)
-    (again again' same same' bytes bytes' rows rows' : Bor (List ℕ))
+    (again again' same same' : Bor (List ℕ))
+    (bytes bytes' rows rows' : MutBor (List ℕ))
     (loose loose' : ℕ)
     (s : Ran)
     (first : rattle.Learnt κs (script, (book, (limit, (literals, (memory, tt))))) r (script', (book', (limit', (literals', (memory', tt))))))
@@ -203,7 +207,8 @@ module _ (script book : List ℕ) where
 -- `stew_run` was lent a script, a book, a limit and three memories, and returned r. Its answer has room
 module _
     (κs : Lfts 5)
-    (script script' book book' literals literals' memory memory' answer answer' : Bor (List ℕ))
+    (script script' book book' : Bor (List ℕ))
+    (literals literals' memory memory' answer answer' : MutBor (List ℕ))
     (limit limit' r : ℕ)
     (call : c.Learnt κs (script, (book, (limit, (literals, (memory, (answer, tt)))))) r (script', (book', (limit', (literals', (memory', (answer', tt)))))))
     (room : 28 ≤ length answer.now) where
@@ -224,9 +229,11 @@ module _
 -- `stew_run` was lent a script, a book, a limit and three memories, and returned r; and the same script and book again, another limit and three other memories, and returned s. Each answer has room
 module _
     (κs ιs : Lfts 5)
-    (script script' book book' literals literals' memory memory' answer answer' : Bor (List ℕ))
+    (script script' book book' : Bor (List ℕ))
+    (literals literals' memory memory' answer answer' : MutBor (List ℕ))
     (limit limit' r : ℕ)
-    (again again' same same' bytes bytes' rows rows' told told' : Bor (List ℕ))
+    (again again' same same' : Bor (List ℕ))
+    (bytes bytes' rows rows' told told' : MutBor (List ℕ))
     (loose loose' s : ℕ)
     (first : c.Learnt κs (script, (book, (limit, (literals, (memory, (answer, tt)))))) r (script', (book', (limit', (literals', (memory', (answer', tt)))))))
     (second : c.Learnt ιs (again, (same, (loose, (bytes, (rows, (told, tt)))))) s (again', (same', (loose', (bytes', (rows', (told', tt))))))) where
