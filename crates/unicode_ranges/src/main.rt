@@ -4,6 +4,8 @@
 
 ghost use Rattle.std.specs.Prelude.{◌≤◌};
 
+use std::io;
+
 // What is listed.
 #[derive(Clone, Copy)]
 enum Property {
@@ -33,29 +35,27 @@ fn next(property: Property, wanted: bool, from: u32) -> u32
     c
 }
 
-fn show(first: u32, last: u32, name: &[u8]) {
-    io::print_hex(1, first as u64, 4);
-    io::write_all(1, b"..");
-    io::print_hex(1, last as u64, 4);
-    io::write_all(1, b" ; ");
-    io::write_all(1, name);
-    io::write_all(1, b"\n");
+fn show(rt: &impl Print, first: u32, last: u32, name: &[u8]) -> io::Result<()> {
+    print!(rt; "{first:04x}..{last:04x} ; ")?;
+    rt.write_all(name)?;
+    rt.write_all(b"\n")
 }
 
-fn list(property: Property, name: &[u8]) {
+fn list(rt: &impl Print, property: Property, name: &[u8]) -> io::Result<()> {
     let mut at = 0;
     while at < 0x110000 {
         let first = next(property, true, at);
         if 0x110000 <= first {
-            return;
+            return Ok(());
         }
         let end = next(property, false, first + 1);
-        show(first, end - 1, name);
+        show(rt, first, end - 1, name)?;
         at = end;
     }
+    Ok(())
 }
 
-fn main() {
-    list(Property::WhiteSpace, b"White_Space");
-    list(Property::Surrogate, b"Surrogate");
+fn main(rt: HostRuntime) -> io::Result<()> {
+    list(&rt, Property::WhiteSpace, b"White_Space")?;
+    list(&rt, Property::Surrogate, b"Surrogate")
 }
