@@ -1,5 +1,5 @@
 // What a case can ask: the name that its line begins with, and the function that answers it.
-ghost use Rattle.io.specs.Counts.{IsPrefixLen};
+ghost use Rattle.std.specs.Prelude.{◌≡◌, ◌≤◌, length, take};
 
 use crate::line::{Case, text};
 use crate::{runs, show};
@@ -12,6 +12,7 @@ use literal::Scanned;
 use places::coordinates::Placed;
 use position::Position;
 use span::Span;
+use std::io;
 use token::Lookup;
 
 // The names. A case's numbers are known by the fields that they stand in: in the first line below the terminator is field 1,
@@ -96,7 +97,8 @@ fn given(kind: usize, case: Case) -> usize {
 
 // How many bytes of `out` a case lends.
 pub(crate) fn room(kind: usize, case: Case, out: &[u8]) -> usize
-    ensures { IsPrefixLen result out.now }
+    ensures within { result ≤ length out.now }
+    ensures front { result ≡ length (take result out.now) }
 {
     let n = given(kind, case);
     if n < out.len() {
@@ -155,102 +157,137 @@ fn partner(kind: usize, t: u8) -> Lookup {
 }
 
 // The scan of a comment.
-fn comment(case: Case, text: &[u8]) {
+fn comment(to: &mut Vec<u8>, case: Case, text: &[u8]) -> io::Result<()> {
     let c = comment::scan_block_comment(text, case.number(6), case.place(3), case.number(1));
     match c {
         Commented::Done(c) => {
-            show::labelled(show::LEVEL, c.level);
-            show::reached(c.cursor);
+            show::labelled(to, show::LEVEL, c.level)?;
+            show::reached(to, c.cursor)
         }
-        Commented::Refused(f) => show::fault(f),
+        Commented::Refused(f) => show::fault(to, f),
     }
 }
 
 // The scan of an identifier.
-fn identifier(case: Case, text: &[u8], book: &[u8]) {
+fn identifier(to: &mut Vec<u8>, case: Case, text: &[u8], book: &[u8]) -> io::Result<()> {
     let i = identifier::parse_identifier_token(text, case.number(5), case.place(2), book);
     match i {
         Identified::Found(w) => {
-            show::word(w.kind);
-            show::labelled(show::TOKEN, w.token as usize);
-            show::reached(w.cursor);
+            show::word(to, w.kind)?;
+            show::labelled(to, show::TOKEN, w.token as usize)?;
+            show::reached(to, w.cursor)
         }
         Identified::Refused(f, c) => {
-            show::fault(f);
-            show::reached(c);
+            show::fault(to, f)?;
+            show::reached(to, c)
         }
     }
 }
 
 // Writes what a book says of a word.
-fn reserved(r: Reserved) {
-    show::truth(r.found);
-    show::truth(r.a);
-    show::truth(r.ab);
+fn reserved(to: &mut Vec<u8>, r: Reserved) -> io::Result<()> {
+    show::truth(to, r.found)?;
+    show::truth(to, r.a)?;
+    show::truth(to, r.ab)
 }
 
 // What is asked of lent memory.
-fn of_memory(kind: usize, case: Case, text: &[u8], out: &mut [u8]) {
+fn of_memory(
+    to: &mut Vec<u8>,
+    kind: usize,
+    case: Case,
+    text: &[u8],
+    out: &mut [u8],
+) -> io::Result<()> {
     match kind {
-        STRING | RAW | RESUMED => show::scanned(literal(kind, case, text, &mut *out), out),
-        _ => show::written(written(kind, case, text, &mut *out), out),
+        STRING | RAW | RESUMED => show::scanned(to, literal(kind, case, text, &mut *out), out),
+        _ => show::written(to, written(kind, case, text, &mut *out), out),
     }
 }
 
 // What is asked of numbers alone.
-fn of_numbers(kind: usize, case: Case) {
+fn of_numbers(to: &mut Vec<u8>, kind: usize, case: Case) -> io::Result<()> {
     match kind {
-        ADVANCE | REWIND | NEWLINE | SUM => show::placed(moved(kind, case.place(1), case.place(4))),
-        PRECEDENCE => show::number(operators::precedence::precedence(case.token(1)) as usize),
-        WHITE => show::truth(white::is_white(case.code(1))),
-        _ => show::token(partner(kind, case.token(1))),
+        ADVANCE | REWIND | NEWLINE | SUM => {
+            show::placed(to, moved(kind, case.place(1), case.place(4)))
+        }
+        PRECEDENCE => show::number(
+            to,
+            operators::precedence::precedence(case.token(1)) as usize,
+        ),
+        WHITE => show::truth(to, white::is_white(case.code(1))),
+        _ => show::token(to, partner(kind, case.token(1))),
     }
 }
 
 // What is asked of a text, which for an identifier a book follows.
-fn of_text(kind: usize, case: Case, before: &[u8], last: &[u8]) {
+fn of_text(
+    to: &mut Vec<u8>,
+    kind: usize,
+    case: Case,
+    before: &[u8],
+    last: &[u8],
+) -> io::Result<()> {
     match kind {
-        COMMENT => comment(case, last),
-        IDENTIFIER => identifier(case, before, last),
-        LOOKUP => show::token(keywords::lookup_symbol_from_syntax(last)),
-        DOC => show::truth(comment::doc::is_doc_comment(last)),
-        _ => show::truth(identifier::valid::is_valid_identifier(last)),
+        COMMENT => comment(to, case, last),
+        IDENTIFIER => identifier(to, case, before, last),
+        LOOKUP => show::token(to, keywords::lookup_symbol_from_syntax(last)),
+        DOC => show::truth(to, comment::doc::is_doc_comment(last)),
+        _ => show::truth(to, identifier::valid::is_valid_identifier(last)),
     }
 }
 
 // What is asked of word books.
-fn of_book<'a>(kind: usize, first: &'a [u8], before: &'a [u8], last: &[u8]) {
+fn of_book<'a>(
+    to: &mut Vec<u8>,
+    kind: usize,
+    first: &'a [u8],
+    before: &'a [u8],
+    last: &[u8],
+) -> io::Result<()> {
     match kind {
-        BOOK => show::number(book::check(last) as usize),
-        RESERVED => reserved(book_lookup::lookup(before, last)),
-        UNCHECKED => reserved(book_lookup::lookup_in(before, last)),
-        FIND => show::bytes(book_lookup::two_books::find(first, before, last)),
-        _ => show::word(show::UNKNOWN),
+        BOOK => show::number(to, book::check(last) as usize),
+        RESERVED => reserved(to, book_lookup::lookup(before, last)),
+        UNCHECKED => reserved(to, book_lookup::lookup_in(before, last)),
+        FIND => show::bytes(to, book_lookup::two_books::find(first, before, last)),
+        _ => show::word(to, show::UNKNOWN),
     }
 }
 
 // What is asked of a script, which for a run a book follows.
-fn of_script(kind: usize, case: Case, before: &[u8], last: &[u8]) {
+fn of_script(
+    to: &mut Vec<u8>,
+    kind: usize,
+    case: Case,
+    before: &[u8],
+    last: &[u8],
+) -> io::Result<()> {
     match kind {
-        RUN => runs::run(case, before, last),
-        LISTING => runs::listing(last),
-        _ => runs::last(last),
+        RUN => runs::run(to, case, before, last),
+        LISTING => runs::listing(to, last),
+        _ => runs::last(to, last),
     }
 }
 
 // The answer to what is asked.
-pub(crate) fn answer(kind: usize, case: Case, texts: &[u8], out: &mut [u8]) {
+pub(crate) fn answer(
+    to: &mut Vec<u8>,
+    kind: usize,
+    case: Case,
+    texts: &[u8],
+    out: &mut [u8],
+) -> io::Result<()> {
     let before = text(case, texts, 1);
     let last = text(case, texts, 0);
     match kind {
-        STRING | RAW | RESUMED | DISPLAY | DEBUG | SPAN | SYNTAX | WRITE => of_memory(
-            kind, case, last, out,
-        ),
-        ADVANCE | REWIND | NEWLINE | SUM | PRECEDENCE | BASE | ASSIGNMENT | WHITE => of_numbers(
-            kind, case,
-        ),
-        COMMENT | IDENTIFIER | LOOKUP | DOC | VALID => of_text(kind, case, before, last),
-        RUN | LISTING | LAST => of_script(kind, case, before, last),
-        _ => of_book(kind, text(case, texts, 2), before, last),
+        STRING | RAW | RESUMED | DISPLAY | DEBUG | SPAN | SYNTAX | WRITE => {
+            of_memory(to, kind, case, last, out)
+        }
+        ADVANCE | REWIND | NEWLINE | SUM | PRECEDENCE | BASE | ASSIGNMENT | WHITE => {
+            of_numbers(to, kind, case)
+        }
+        COMMENT | IDENTIFIER | LOOKUP | DOC | VALID => of_text(to, kind, case, before, last),
+        RUN | LISTING | LAST => of_script(to, kind, case, before, last),
+        _ => of_book(to, kind, text(case, texts, 2), before, last),
     }
 }

@@ -1,9 +1,10 @@
 // What is asked of whole scripts: a run, within a limit and rooms, and the listing.
-ghost use Rattle.io.specs.Counts.{IsPrefixLen};
+ghost use Rattle.std.specs.Prelude.{◌≡◌, ◌≤◌, length, take};
 
 use crate::line::{Case, part};
 use crate::show;
 use reading::Ending;
+use std::io;
 
 // What lent memory holds before a run, to see that no more is written than is told.
 const BYTE: u8 = 255;
@@ -12,7 +13,8 @@ const NUMBER: u32 = 4294967295;
 
 // How many bytes a case lends.
 fn literal_room(n: usize, literals: &[u8]) -> usize
-    ensures { IsPrefixLen result literals.now }
+    ensures within { result ≤ length literals.now }
+    ensures front { result ≡ length (take result literals.now) }
 {
     if n < literals.len() {
         return n;
@@ -22,7 +24,8 @@ fn literal_room(n: usize, literals: &[u8]) -> usize
 
 // How many numbers a case lends.
 fn entry_room(n: usize, entries: &[u32]) -> usize
-    ensures { IsPrefixLen result entries.now }
+    ensures within { result ≤ length entries.now }
+    ensures front { result ≡ length (take result entries.now) }
 {
     if n < entries.len() {
         return n;
@@ -31,18 +34,19 @@ fn entry_room(n: usize, entries: &[u32]) -> usize
 }
 
 // The numbers of the entries, a comma behind each fifth.
-fn entries(numbers: &[u32], listed: usize) {
+fn entries(to: &mut Vec<u8>, numbers: &[u32], listed: usize) -> io::Result<()> {
     let mut i = 0;
     while i < numbers.len() {
         if listed <= i / 5 {
-            return;
+            return Ok(());
         }
-        show::number(wide(numbers[i]));
+        show::number(to, wide(numbers[i]))?;
         if i % 5 == 4 {
-            show::byte(b',');
+            show::byte(to, b',')?;
         }
         i += 1;
     }
+    Ok(())
 }
 
 fn wide(n: u32) -> usize {
@@ -50,17 +54,17 @@ fn wide(n: u32) -> usize {
 }
 
 // How a run ended: a stop with its place and the part of the script that it is about.
-fn ending(e: Ending) {
+fn ending(to: &mut Vec<u8>, e: Ending) -> io::Result<()> {
     match e {
         Ending::End(p) => {
-            show::word(show::END);
-            show::place(p);
+            show::word(to, show::END)?;
+            show::place(to, p)
         }
         Ending::Stop(f) => {
-            show::labelled(show::STOP, f.number as usize);
-            show::place(f.place);
-            show::labelled(show::PART, f.part.at);
-            show::number(f.part.len);
+            show::labelled(to, show::STOP, f.number as usize)?;
+            show::place(to, f.place)?;
+            show::labelled(to, show::PART, f.part.at)?;
+            show::number(to, f.part.len)
         }
     }
 }
@@ -92,46 +96,58 @@ fn numbers_kept(numbers: &[u32], listed: usize) -> bool {
 }
 
 // The entries, the ending, the literal bytes, and whether all else that was lent is as it was.
-fn within(limit: usize, script: &[u8], book: &[u8], literals: &mut [u8], numbers: &mut [u32]) {
+fn within(
+    to: &mut Vec<u8>,
+    limit: usize,
+    script: &[u8],
+    book: &[u8],
+    literals: &mut [u8],
+    numbers: &mut [u32],
+) -> io::Result<()> {
     let ran = run::run(script, book, limit, &mut *literals, &mut *numbers);
     let used = ran.used;
     let listed = ran.listed;
-    entries(numbers, listed);
-    ending(ran.ending);
-    show::word(show::LITERALS);
-    show::bytes(part(literals, 0, used));
-    show::word(show::KEPT);
-    show::truth(bytes_kept(literals, used) && numbers_kept(numbers, listed));
+    entries(to, numbers, listed)?;
+    ending(to, ran.ending)?;
+    show::word(to, show::LITERALS)?;
+    show::bytes(to, part(literals, 0, used))?;
+    show::word(to, show::KEPT)?;
+    show::truth(
+        to,
+        bytes_kept(literals, used) && numbers_kept(numbers, listed),
+    )
 }
 
 // A run in the rooms that its case gives.
-pub(crate) fn run(case: Case, script: &[u8], book: &[u8]) {
+pub(crate) fn run(to: &mut Vec<u8>, case: Case, script: &[u8], book: &[u8]) -> io::Result<()> {
     let mut literals = [BYTE; 256];
     let mut numbers = [NUMBER; 500];
     let room = literal_room(case.number(4), &literals);
     let count = entry_room(case.number(6), &numbers);
     within(
+        to,
         case.number(2),
         script,
         book,
         &mut literals[..room],
         &mut numbers[..count],
-    );
+    )
 }
 
 // A text with `|` for each line feed.
-fn lines(text: &[u8]) {
-    show::byte(b' ');
+fn lines(to: &mut Vec<u8>, text: &[u8]) -> io::Result<()> {
+    show::byte(to, b' ')?;
     let mut i = 0;
     while i < text.len() {
         let b = text[i];
         if b == b'\n' {
-            show::byte(b'|');
+            show::byte(to, b'|')?;
         } else {
-            show::byte(b);
+            show::byte(to, b)?;
         }
         i += 1;
     }
+    Ok(())
 }
 
 // One line more behind a line feed; a listing has few.
@@ -169,17 +185,17 @@ fn last_from(text: &[u8]) -> usize {
 }
 
 // The listing of a script.
-pub(crate) fn listing(script: &[u8]) {
+pub(crate) fn listing(to: &mut Vec<u8>, script: &[u8]) -> io::Result<()> {
     let mut out = [0u8; 180000];
     let n = listed::list(script, &mut out);
-    lines(part(&out, 0, n));
+    lines(to, part(&out, 0, n))
 }
 
 // Its last line, and how many lines it has.
-pub(crate) fn last(script: &[u8]) {
+pub(crate) fn last(to: &mut Vec<u8>, script: &[u8]) -> io::Result<()> {
     let mut out = [0u8; 180000];
     let n = listed::list(script, &mut out);
     let text = part(&out, 0, n);
-    show::labelled(show::LINES, count(text));
-    lines(part(text, last_from(text), text.len()));
+    show::labelled(to, show::LINES, count(text))?;
+    lines(to, part(text, last_from(text), text.len()))
 }

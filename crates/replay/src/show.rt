@@ -1,10 +1,12 @@
-// How answers are written: each part with a space before it.
+// How answers are written: each part with a space before it. They are gathered in memory, behind what stands there already.
 use chars::cursor::Cursor;
 use fault::Fault;
 use lent::Written;
 use literal::{Scanned, Terminator};
 use places::coordinates::Placed;
 use position::Position;
+use std::io;
+use std::io::Write;
 use token::Lookup;
 
 // The words of the answers, in 13 bytes each. The kinds of an identifier are the numbers of their words.
@@ -79,163 +81,165 @@ pub const KEPT: u8 = 23;
 pub const LINES: u8 = 24;
 
 // Bytes as they are.
-fn text(bytes: &[u8]) {
-    io::write_all(1, bytes);
+fn text(to: &mut Vec<u8>, bytes: &[u8]) -> io::Result<()> {
+    to.extend_from_slice(bytes)?;
+    Ok(())
 }
 
 // One byte as it is.
-pub(crate) fn byte(b: u8) {
+pub(crate) fn byte(to: &mut Vec<u8>, b: u8) -> io::Result<()> {
     let one = [b];
-    text(&one);
+    text(to, &one)
 }
 
 // A word of the list.
-pub(crate) fn word(n: u8) {
-    byte(b' ');
+pub(crate) fn word(to: &mut Vec<u8>, n: u8) -> io::Result<()> {
+    byte(to, b' ')?;
     let words = WORDS;
     let mut at = 13 * n as usize;
     while at < 325 {
         let b = words[at];
         if b == b' ' {
-            return;
+            return Ok(());
         }
-        byte(b);
+        byte(to, b)?;
         at += 1;
     }
+    Ok(())
 }
 
 // A number without a space.
-fn decimal(n: usize) {
-    io::print_decimal(1, n as u64);
+fn decimal(to: &mut Vec<u8>, n: usize) -> io::Result<()> {
+    write!(to, "{n}")
 }
 
 // A number.
-pub(crate) fn number(n: usize) {
-    byte(b' ');
-    decimal(n);
+pub(crate) fn number(to: &mut Vec<u8>, n: usize) -> io::Result<()> {
+    byte(to, b' ')?;
+    decimal(to, n)
 }
 
 // A number with a word before it.
-pub(crate) fn labelled(label: u8, n: usize) {
-    word(label);
-    number(n);
+pub(crate) fn labelled(to: &mut Vec<u8>, label: u8, n: usize) -> io::Result<()> {
+    word(to, label)?;
+    number(to, n)
 }
 
 // A truth value.
-pub(crate) fn truth(b: bool) {
+pub(crate) fn truth(to: &mut Vec<u8>, b: bool) -> io::Result<()> {
     if b {
-        word(TRUE);
-        return;
+        return word(to, TRUE);
     }
-    word(FALSE);
+    word(to, FALSE)
 }
 
 // Two hex digits.
-fn hex_byte(b: u8) {
-    io::print_hex(1, b as u64, 2);
+fn hex_byte(to: &mut Vec<u8>, b: u8) -> io::Result<()> {
+    write!(to, "{b:02x}")
 }
 
 // Bytes in hex, `-` for none.
-pub(crate) fn bytes(b: &[u8]) {
+pub(crate) fn bytes(to: &mut Vec<u8>, b: &[u8]) -> io::Result<()> {
     if b.len() == 0 {
-        word(EMPTY);
-        return;
+        return word(to, EMPTY);
     }
-    byte(b' ');
+    byte(to, b' ')?;
     let mut i = 0;
     while i < b.len() {
-        hex_byte(b[i]);
+        hex_byte(to, b[i])?;
         i += 1;
     }
+    Ok(())
 }
 
 // A place as line and column, NONE being 0:0.
-pub(crate) fn place(p: Position) {
-    number(p.line_number() as usize);
-    byte(b':');
-    decimal(p.column_number() as usize);
+pub(crate) fn place(to: &mut Vec<u8>, p: Position) -> io::Result<()> {
+    number(to, p.line_number() as usize)?;
+    byte(to, b':')?;
+    decimal(to, p.column_number() as usize)
 }
 
 // Where a scan stopped.
-pub(crate) fn reached(c: Cursor) {
-    labelled(ENDS, c.at);
-    place(c.place);
+pub(crate) fn reached(to: &mut Vec<u8>, c: Cursor) -> io::Result<()> {
+    labelled(to, ENDS, c.at)?;
+    place(to, c.place)
 }
 
 // What is on record: how often which character, `-` for nothing.
-fn record(t: Terminator) {
-    word(RECORD);
+fn record(to: &mut Vec<u8>, t: Terminator) -> io::Result<()> {
+    word(to, RECORD)?;
     if t.times == 0 {
-        word(EMPTY);
-        return;
+        return word(to, EMPTY);
     }
-    number(t.times);
+    number(to, t.times)?;
     if t.c < 128 {
-        byte(t.c as u8);
+        byte(to, t.c as u8)?;
     }
+    Ok(())
 }
 
 // A refusal's number.
-fn refused(n: u8) {
-    labelled(REFUSED, n as usize);
+fn refused(to: &mut Vec<u8>, n: u8) -> io::Result<()> {
+    labelled(to, REFUSED, n as usize)
 }
 
 // A fault: its number, the place reported, and the part of the script, offset and length.
-pub(crate) fn fault(f: Fault) {
-    refused(f.number);
-    word(AT);
-    place(f.place);
-    labelled(PART, f.part.at);
-    number(f.part.len);
+pub(crate) fn fault(to: &mut Vec<u8>, f: Fault) -> io::Result<()> {
+    refused(to, f.number)?;
+    word(to, AT)?;
+    place(to, f.place)?;
+    labelled(to, PART, f.part.at)?;
+    number(to, f.part.len)
 }
 
 // A literal's scan, with what was lent to it.
-pub(crate) fn scanned(s: Scanned, out: &[u8]) {
+pub(crate) fn scanned(to: &mut Vec<u8>, s: Scanned, out: &[u8]) -> io::Result<()> {
     match s {
         Scanned::Accepted(e, n) => {
-            word(OK);
-            bytes(crate::line::part(out, 0, n));
-            reached(e.cursor);
-            word(FIRST);
-            place(e.first);
-            record(e.on_record);
+            word(to, OK)?;
+            bytes(to, crate::line::part(out, 0, n))?;
+            reached(to, e.cursor)?;
+            word(to, FIRST)?;
+            place(to, e.first)?;
+            record(to, e.on_record)?;
             if e.interpolated {
-                word(INTERPOLATED);
+                word(to, INTERPOLATED)?;
             }
+            Ok(())
         }
         Scanned::Refused(r) => {
-            fault(r.fault);
-            reached(r.cursor);
-            record(r.on_record);
+            fault(to, r.fault)?;
+            reached(to, r.cursor)?;
+            record(to, r.on_record)
         }
     }
 }
 
 // A place, or why there is none.
-pub(crate) fn placed(p: Placed) {
+pub(crate) fn placed(to: &mut Vec<u8>, p: Placed) -> io::Result<()> {
     match p {
-        Placed::At(p) => place(p),
-        Placed::Refused(n) => refused(n),
+        Placed::At(p) => place(to, p),
+        Placed::Refused(n) => refused(to, n),
     }
 }
 
 // A text that was written into what was lent.
-pub(crate) fn written(w: Written, out: &[u8]) {
+pub(crate) fn written(to: &mut Vec<u8>, w: Written, out: &[u8]) -> io::Result<()> {
     match w {
         Written::Done(n) => {
-            byte(b' ');
-            byte(b'[');
-            text(crate::line::part(out, 0, n));
-            byte(b']');
+            byte(to, b' ')?;
+            byte(to, b'[')?;
+            text(to, crate::line::part(out, 0, n))?;
+            byte(to, b']')
         }
-        Written::Refused(n) => refused(n),
+        Written::Refused(n) => refused(to, n),
     }
 }
 
 // A token, where there is one.
-pub(crate) fn token(t: Lookup) {
+pub(crate) fn token(to: &mut Vec<u8>, t: Lookup) -> io::Result<()> {
     match t {
-        Lookup::Some(n) => labelled(TOKEN, n as usize),
-        Lookup::None => word(NONE),
+        Lookup::Some(n) => labelled(to, TOKEN, n as usize),
+        Lookup::None => word(to, NONE),
     }
 }
