@@ -1,5 +1,5 @@
-// The C names of the compile tool: the run and the raw writer on byte slices.
+// What the compile tool asks, behind its C names: the run and the raw writer on byte slices.
 #![tactic(auto)]
 
 pub mod runs;
-mod writer;
+pub mod writer;

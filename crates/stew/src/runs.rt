@@ -1,4 +1,4 @@
-// The run through C, for the compile tool: `run` on byte slices.
+// What the compile tool asks of the run: `run` on byte slices.
 ghost use Rattle.std.specs.Prelude.{◌≡◌, ◌≤◌, get_or};
 ghost use Rattle.stew.specs.RunAnswer.{tells_of, run_short, c_called, stew_run_of};
 
@@ -53,8 +53,7 @@ fn short_number(script: &[u8], book: &[u8]) -> u32
 // The entries go to `entries`, 20 bytes each, the bytes of literals to `literals`, and seven numbers of four bytes to `answer`:
 // number, line, position, entries listed, literal bytes used, and where the part of the script is that the fault is about.
 // Returns 0 or the stop's number. Where `answer` is shorter than 28 bytes, nothing is written.
-#[unsafe(no_mangle)]
-pub extern "C" fn stew_run(
+pub fn stew_run(
     script: &[u8],
     book: &[u8],
     limit: usize,

@@ -1,4 +1,4 @@
-// The raw writer through C, for the compile tool: `raw_write` on byte slices.
+// What the compile tool asks of the raw writer: `raw_write` on byte slices.
 ghost use Rattle.std.specs.Prelude.{◌≡◌};
 ghost use Rattle.stew.specs.WriteAnswer.{short_write_number, write_returned, out_of, write_answer};
 
@@ -17,8 +17,7 @@ fn short_number(body: &[u8]) -> u32
 
 // The literal goes to `out`, and its length in four bytes to `answer`. Returns 0 or the refusal's number. Where `answer` is
 // shorter than four bytes, nothing is written.
-#[unsafe(no_mangle)]
-pub extern "C" fn stew_raw_write(body: &[u8], out: &mut [u8], answer: &mut [u8]) -> u32
+pub fn stew_raw_write(body: &[u8], out: &mut [u8], answer: &mut [u8]) -> u32
     ensures value { result ≡ write_returned body.now out.old answer.old }
     ensures out_after { out.new ≡ out_of body.now out.old answer.old }
     ensures answer_after { answer.new ≡ write_answer body.now out.old answer.old }
