@@ -1,7 +1,7 @@
 //! Links the proved static libraries, and tells the program what there is to compare.
 //!
 //! They are those that the file `archives` lists, in the folder that `STEW_ARCHIVES` names, else in
-//! the one that `rt staticlib` writes to. They are linked only if all of them are there. One of
+//! the one that `tools/archive` writes to. They are linked only if all of them are there. One of
 //! them is linked by `stewsatchel`, which is not built without it.
 
 use std::env;

@@ -1,7 +1,7 @@
 //! Links the archive of the proved run and the proved raw writer.
 //!
 //! It is looked for in the folder that `STEW_ARCHIVES` names, else in the one that
-//! `rt staticlib` writes to. Where it is missing, the build ends and says how to make it.
+//! `tools/archive` writes to. Where it is missing, the build ends and says how to make it.
 
 use std::env;
 use std::path::{Path, PathBuf};
@@ -19,7 +19,7 @@ fn main() {
     println!("cargo:rerun-if-changed={}", archive.display());
     if !archive.is_file() {
         eprintln!("stewsatchel: there is no archive {}", archive.display());
-        eprintln!("stewsatchel: `rt staticlib stew` in the repository's root makes it");
+        eprintln!("stewsatchel: `tools/archive` in the repository's root makes it");
         eprintln!("stewsatchel: or set STEW_ARCHIVES to the absolute path of a folder that has it");
         exit(1);
     }

@@ -44,7 +44,7 @@ fn main() -> ExitCode {
 fn main() -> ExitCode {
     let missing = env!("STEW_MISSING");
     eprintln!("bench: archives are missing: {}", missing);
-    eprintln!("bench: `rt staticlib NAME` builds one, `tools/bench` all");
+    eprintln!("bench: `tools/archive NAME` builds one, `tools/bench` all");
     ExitCode::from(2)
 }
 

@@ -17,7 +17,7 @@ fn main() -> ExitCode {
 fn main() -> ExitCode {
     let missing = env!("STEW_MISSING");
     eprintln!("compare: archives are missing: {}", missing);
-    eprintln!("compare: `rt staticlib NAME` builds one, `tools/compare` all");
+    eprintln!("compare: `tools/archive NAME` builds one, `tools/compare` all");
     ExitCode::from(2)
 }
 
