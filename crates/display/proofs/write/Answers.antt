@@ -11,7 +11,7 @@ put : (k : Joined-what) → Put empty (shown_of k.args.what) 26 k.match-what.tex
 unfolding shown_of
 put k =
     elim k.match-what.branch [
-      in-Display w ↦ rw (w.text-is, w.in-Display.is) w.put_display-text.ensures
+      | in-Display w ↦ rw (w.text-is, w.in-Display.is) w.put_display-text.ensures
       | in-Debug w ↦ rw (w.text-is, w.in-Debug.is) (at_most 26 (omega arith) w.put_debug-text.ensures)
       | in-Span w ↦ rw (w.text-is, w.in-Span.is) (at_most 26 (omega arith) w.put_span-text.ensures)
     ]
