@@ -8,7 +8,6 @@ use Rattle.places.specs.declared.coordinates.Coordinate.{Coordinate}
 use Rattle.places.specs.declared.coordinates.Coordinate.TheVariants.{Some, None}
 use Rattle.span.specs.declared.Span.{Span}
 use Rattle.display.specs.declared.Shown.{Shown}
-use Rattle.display.specs.declared.Shown.TheVariants as Shown
 use Rattle.position.specs.Place.{none, is_none, begins_line, line_number, column_number}
 use Rattle.places.specs.Coordinates.{line_option}
 use Rattle.span.specs.Spans.{span_start, span_end}

@@ -22,7 +22,6 @@ use Rattle.chars.specs.Cursors.{cursor}
 use Rattle.chars.proofs.Cursors.{ate}
 use Rattle.escape.specs.Escapes.{no_char, letter_of, digits_after}
 use Rattle.escape.specs.Whole.{DigitsAt, whole_escape, WholeAt, stands, itself}
-use Rattle.escape.specs.declared.Escaped.TheVariants.{Char}
 use Rattle.escape.proofs.Ways.{Counting, counting_start, counting_done, counting_small, counting_more, digits_scalar, escapes_letter, escapes_other, escapes_number}
 
 -- ---- a scalar value is not the number that stands for none

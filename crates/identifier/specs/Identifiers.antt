@@ -32,7 +32,6 @@ use Rattle.token.specs.declared.Lookup.TheVariants.{Some, None}
 use Rattle.book.specs.Book.{check_of}
 use Rattle.book_lookup.specs.Lookup.{reserved_of}
 use Rattle.identifier.specs.Valid.{is_valid_identifier}
-use Rattle.identifier.specs.declared.scan.Word.{Word}
 use Rattle.identifier.specs.declared.scan.Class.{Class}
 use Rattle.identifier.specs.declared.scan.Class.TheVariants.{Is, Malformed}
 use Rattle.identifier.specs.declared.scan.Identified.{Identified}

@@ -1,5 +1,5 @@
 -- Every move keeps a place's line and column within 65,535. Assumes nothing.
-use Prim.Native.Nat.{ℕ, zero, suc, ◌-◌, ◌≤◌}
+use Prim.Native.Nat.{ℕ, zero, suc, ◌≤◌}
 use native.Mathlib.Omega.{arith}
 use Rattle.position.specs.Place.{none, start, line_number, column_number, up, advanced, advanced_by, lined}
 use Rattle.position.specs.declared.Position.{Position}

@@ -16,7 +16,6 @@ use Rattle.position.specs.Place.{is_none, on_line, or_else, advanced, lined}
 use Rattle.position.proofs.Moves.{advanced_on, on_some}
 use Rattle.utf8.specs.Table.{look, look_at}
 use Rattle.utf8.specs.Encode.{is_scalar, encode, encode_all, all_scalar}
-use Rattle.utf8.specs.declared.Look.TheVariants.{Char}
 use Rattle.utf8.proofs.Encodes.{scalar_low}
 use Rattle.utf8.proofs.Finds.{look_encode}
 use Rattle.chars.specs.Cursors.{cursor, eat_next_of}
@@ -24,7 +23,7 @@ use Rattle.chars.specs.Scan.{run_at}
 use Rattle.chars.specs.declared.cursor.Taken.TheVariants as taken
 use Rattle.chars.proofs.Cursors.{ate}
 use Rattle.chars.proofs.Scans.{move_over}
-use Rattle.literal.specs.Trace.{Trace, ends, bytes, final, good}
+use Rattle.literal.specs.Trace.{Trace, bytes, final, good}
 use Rattle.literal.specs.declared.End.{End}
 use Rattle.literal.specs.Answers.{nothing}
 use Rattle.classes.specs.Marks.{lf}

@@ -1,7 +1,5 @@
 -- The loop passes the words that are fit. Assumes nothing.
-use Prim.Native.Nat.{◌-◌}
-use borrow.Author.Rules.{rules}
-use Rattle.book.proofs.Words.{Fitting, fitting_start, not_fit, fitting_next, fitting_end}
+use Rattle.book.proofs.Words.{fitting_start, not_fit, fitting_next, fitting_end}
 use Rattle.book.proofs.all_fit.Goals as goal
 
 pub loop-k-init : goal.loop-k-init

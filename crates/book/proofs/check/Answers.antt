@@ -4,7 +4,6 @@ use mathlib.Core.Bool.{true}
 use mathlib.Core.List.{List}
 use mathlib.Core.Path.{◌≡◌}
 use lib.ListN.{length}
-use borrow.Author.Rules.{rules}
 use Rattle.book.specs.Contents.{word_count, bodies, enough}
 use Rattle.book.proofs.contents.Parts.{is_short, is_count, is_enough, has_rows}
 use Rattle.book.proofs.Checks.{not_enough, too_many, not_running, not_all_fit, not_rising, all_right}

@@ -1,8 +1,5 @@
 -- The loop passes the bytes that are ASCII. Assumes nothing.
-use Prim.Native.Nat.{◌-◌}
-use lib.ListN.{length}
-use Rattle.book.proofs.Plain.{Plain, plain_start, not_plain, plain_next, plain_end}
-use borrow.Author.Rules.{rules}
+use Rattle.book.proofs.Plain.{plain_start, not_plain, plain_next, plain_end}
 use Rattle.book.proofs.is_ascii.Goals as goal
 
 pub loop-i-init : goal.loop-i-init

@@ -1,5 +1,4 @@
 -- One test for each condition. Assumes nothing.
-use borrow.Author.Rules.{rules}
 use Rattle.book.proofs.contents.Parts.{row_size, row_flags}
 use Rattle.book.proofs.Fits.{too_short, too_long, other_flags, plain_word}
 use Rattle.book.proofs.is_fit.Goals as goal

@@ -1,7 +1,5 @@
 -- The loop passes the words that are below the next one. Assumes nothing.
-use Prim.Native.Nat.{◌-◌}
-use borrow.Author.Rules.{rules}
-use Rattle.book.proofs.Words.{Mounting, mounting_start, equal_words, falling_words, mounting_next, mounting_end}
+use Rattle.book.proofs.Words.{mounting_start, equal_words, falling_words, mounting_next, mounting_end}
 use Rattle.book.proofs.is_rising.Goals as goal
 
 pub loop-k-init : goal.loop-k-init

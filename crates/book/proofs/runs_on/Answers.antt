@@ -1,8 +1,6 @@
 -- The loop passes the words that start where the one before ends. Assumes nothing.
-use Prim.Native.Nat.{◌-◌}
-use borrow.Author.Rules.{rules}
 use Rattle.book.proofs.contents.Parts.{row_start, row_size}
-use Rattle.book.proofs.Words.{Running, running_start, gap, running_next, running_end}
+use Rattle.book.proofs.Words.{running_start, gap, running_next, running_end}
 use Rattle.book.proofs.runs_on.Goals as goal
 
 pub loop-k-init : goal.loop-k-init

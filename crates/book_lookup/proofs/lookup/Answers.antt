@@ -1,6 +1,5 @@
 -- In a good book the lookup with no check is the lookup. Assumes nothing.
 use Rattle.book_lookup.proofs.Places.{good_says, bad_says_nothing}
-use borrow.Author.Rules.{rules}
 use Rattle.book_lookup.proofs.lookup.Goals as goal
 
 pub returns-then-check-ne0 : goal.returns-then-check-ne0

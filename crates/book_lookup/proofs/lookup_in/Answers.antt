@@ -1,5 +1,4 @@
 -- The flags of the word that the search found. Assumes nothing.
-use borrow.Author.Rules.{rules}
 use Rattle.book.proofs.contents.Parts.{row_flags}
 use Rattle.book_lookup.proofs.Places.{row_counted, row_written, says_nothing, says_flags}
 use Rattle.book_lookup.proofs.lookup_in.Goals as goal

@@ -1,5 +1,4 @@
 -- The two numbers are the place's.
-use borrow.Author.Rules.{rules}
 use Rattle.c_answer.specs.Packed.{packed}
 use Rattle.c_answer.proofs.pack.Goals as goal
 

@@ -1,5 +1,4 @@
 -- Each arm is the definition at its case.
-use borrow.Author.Rules.{rules}
 use Rattle.c_answer.specs.Packed.{refusal_as_number, written_as_number}
 use Rattle.c_answer.proofs.written_as_number.Goals as goal
 

@@ -1,6 +1,5 @@
 -- The three classes of the definition, in its order.
 use mathlib.Core.Path.{sym, ◌∙◌}
-use borrow.Author.Rules.{rules}
 use Rattle.classes.specs.Class.{is_id_continue}
 use Rattle.classes.proofs.is_id_continue.Goals as goal
 

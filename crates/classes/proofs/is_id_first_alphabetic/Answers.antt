@@ -1,6 +1,5 @@
 -- One range, else the other.
 use mathlib.Core.Path.{sym, ◌∙◌}
-use borrow.Author.Rules.{rules}
 use Rattle.classes.specs.Class.{is_id_first_alphabetic}
 use Rattle.classes.proofs.is_id_first_alphabetic.Goals as goal
 

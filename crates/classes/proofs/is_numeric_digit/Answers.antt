@@ -1,5 +1,4 @@
 -- The range is the definition's.
-use borrow.Author.Rules.{rules}
 use Rattle.classes.specs.Class.{is_numeric_digit}
 use Rattle.classes.proofs.is_numeric_digit.Goals as goal
 

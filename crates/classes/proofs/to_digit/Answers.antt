@@ -1,6 +1,5 @@
 -- The three ranges of the definition, in its order; a range's low end says that its value is no less than 0.
 use mathlib.Core.Path.{sym, ◌∙◌}
-use borrow.Author.Rules.{rules}
 use native.Mathlib.Omega.{arith}
 use Rattle.classes.specs.Class.{digit_of}
 use Rattle.utf8.specs.Table.{◌‥◌}

@@ -1,6 +1,5 @@
 -- The questions of the definition, in its order.
 use mathlib.Core.Path.{sym, ◌∙◌}
-use borrow.Author.Rules.{rules}
 use Rattle.comment.proofs.Refusals.{at_door, off_line, no_level, too_many, let_in}
 use Rattle.comment.proofs.refuses.Goals as goal
 

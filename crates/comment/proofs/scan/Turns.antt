@@ -13,7 +13,7 @@ use Rattle.position.specs.declared.Position.{Position}
 use Rattle.position.specs.Place.{advanced, advanced_by, lined}
 use Rattle.position.proofs.Moves.{advanced_by_none, advanced_by_more}
 use Rattle.utf8.specs.Table.{chars_at, look_at}
-use Rattle.utf8.specs.declared.Look.TheVariants.{Char, End}
+use Rattle.utf8.specs.declared.Look.TheVariants.{Char}
 use Rattle.utf8.proofs.Laws.{at_width, chars_char}
 use Rattle.chars.specs.Cursors.{cursor, eat_next_of}
 use Rattle.chars.specs.Scan.{follows, widths, run_at, Move, on, over}

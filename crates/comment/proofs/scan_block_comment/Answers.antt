@@ -1,6 +1,5 @@
 -- Refused arguments are refused; all others are scanned.
 use mathlib.Core.Path.{ap, ◌∙◌}
-use borrow.Author.Rules.{rules}
 use Rattle.comment.specs.declared.scan.Commented.TheVariants.{Done}
 use Rattle.comment.proofs.Refusals.{nothing_refused, refused, done}
 use Rattle.comment.proofs.scan_block_comment.Goals as goal

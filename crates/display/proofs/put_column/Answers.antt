@@ -1,6 +1,5 @@
 -- The byte is put, and the digits behind it.
 use native.Mathlib.Omega.{arith}
-use borrow.Author.Rules.{rules}
 use Rattle.display.proofs.Texts.{and_put}
 use Rattle.display.proofs.put_column.Goals as goal
 

@@ -1,6 +1,5 @@
 -- With room the copy is whole.
 use native.Mathlib.Omega.{arith}
-use borrow.Author.Rules.{rules}
 use Rattle.basis.proofs.Stores.{whole}
 use Rattle.display.proofs.put_word.Goals as goal
 

@@ -1,6 +1,5 @@
 -- The questions of the definition, in its order; where characters begin is asked of one byte.
 use mathlib.Core.Path.{sym, ◌∙◌}
-use borrow.Author.Rules.{rules}
 use Rattle.door.proofs.Doors.{text_first, let_in, not_there}
 use Rattle.door.proofs.door.Goals as goal
 

@@ -1,6 +1,5 @@
 -- The questions of the definition, in its order.
 use mathlib.Core.Path.{sym, ◌∙◌}
-use borrow.Author.Rules.{rules}
 use Rattle.door.proofs.Doors.{text_long, text_bytes, text_good}
 use Rattle.door.proofs.text.Goals as goal
 

@@ -1,8 +1,7 @@
 -- The invariant is that the digits left, counted on from what was read, are those from the start: proofs/Ways.antt.
-use Prim.Native.Nat.{◌-◌, ◌<◌}
+use Prim.Native.Nat.{◌<◌}
 use native.Mathlib.Omega.{arith}
-use borrow.Author.Rules.{rules}
-use Rattle.escape.proofs.Ways.{Counting, counting_start, counting_cut, counting_bad, counting_more, counting_done, counting_small}
+use Rattle.escape.proofs.Ways.{counting_start, counting_cut, counting_bad, counting_more, counting_done, counting_small}
 use Rattle.escape.proofs.hex_digits.Goals as goal
 use Rattle.escape.proofs.hex_digits.Goals.{In-loop-i}
 

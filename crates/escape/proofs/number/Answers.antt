@@ -1,5 +1,4 @@
 -- What the digits gave is told apart as the definition does.
-use borrow.Author.Rules.{rules}
 use Rattle.escape.proofs.Ways.{digits_scalar, digits_none, digits_bad}
 use Rattle.escape.proofs.number.Goals as goal
 

@@ -1,5 +1,4 @@
 -- Each return is a law of proofs/Ways.antt on the whole.
-use borrow.Author.Rules.{rules}
 use Rattle.escape.proofs.Ways.{escapes_letter, escapes_other, escapes_number}
 use Rattle.escape.proofs.unescape.Goals as goal
 

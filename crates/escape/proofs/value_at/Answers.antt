@@ -1,10 +1,9 @@
 -- The digits so far are those of the definition, wherever they stand: proofs/Wholes.antt.
-use Prim.Native.Nat.{◌+◌, ◌-◌, ◌<◌}
+use Prim.Native.Nat.{◌+◌, ◌<◌}
 use native.Mathlib.Omega.{arith}
 use mathlib.Core.Path.{refl}
 use lib.ListN.{length}
-use borrow.Author.Rules.{rules}
-use Rattle.escape.proofs.Wholes.{Counted, counted_start, counted_done, counted_small, counted_more}
+use Rattle.escape.proofs.Wholes.{counted_start, counted_done, counted_small, counted_more}
 use Rattle.escape.proofs.value_at.Goals as goal
 use Rattle.escape.proofs.value_at.Goals.{In-loop-i}
 

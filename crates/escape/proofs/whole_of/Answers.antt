@@ -1,6 +1,5 @@
 -- Each return is a law of proofs/Wholes.antt on the whole.
 use native.Mathlib.Omega.{arith}
-use borrow.Author.Rules.{rules}
 use Rattle.escape.specs.Whole.{none}
 use Rattle.escape.proofs.Wholes.{whole_letter, whole_terminator, whole_number}
 use Rattle.escape.proofs.whole_of.Goals as goal

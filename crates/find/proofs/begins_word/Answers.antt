@@ -1,6 +1,5 @@
 -- A letter, or else whether it is `_`.
 use mathlib.Core.Path.{sym, ◌∙◌}
-use borrow.Author.Rules.{rules}
 use Rattle.find.proofs.Begins.{word_letter, word_other}
 use Rattle.find.proofs.begins_word.Goals as goal
 

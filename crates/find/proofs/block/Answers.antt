@@ -1,6 +1,5 @@
 -- Closed, or open at the end.
 use mathlib.Core.Path.{sym}
-use borrow.Author.Rules.{rules}
 use Rattle.find.proofs.Begins.{block_closed, block_open}
 use Rattle.find.proofs.block.Goals as goal
 

@@ -1,6 +1,5 @@
 -- The code point of what is found.
 use mathlib.Core.Path.{sym, ap, ◌∙◌}
-use borrow.Author.Rules.{rules}
 use Rattle.find.specs.Find.{code_of}
 use Rattle.find.proofs.code_at.Goals as goal
 

@@ -1,6 +1,5 @@
 -- What each sign begins. A comment's two characters are within the script.
 use mathlib.Core.Path.{sym, ◌∙◌}
-use borrow.Author.Rules.{rules}
 use Rattle.find.specs.Find.{line_comment}
 use Rattle.find.proofs.Begins.{block_within, signed}
 use Rattle.find.proofs.mark.Goals as goal

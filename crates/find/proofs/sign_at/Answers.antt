@@ -1,6 +1,5 @@
 -- Each character by its law.
 use mathlib.Core.Path.{sym, ◌∙◌}
-use borrow.Author.Rules.{rules}
 use Rattle.find.proofs.Begins.{at_quote, at_apostrophe, at_backtick, at_hash, at_slash, at_symbol}
 use Rattle.find.proofs.sign_at.Goals as goal
 

@@ -1,17 +1,15 @@
 -- What is skipped from here is what is skipped from the start.
-use Prim.Native.Nat.{ℕ, ◌+◌, ◌-◌, ◌≤◌}
+use Prim.Native.Nat.{ℕ, ◌+◌, ◌≤◌}
 use native.Mathlib.Omega.{arith}
 use mathlib.Core.Bool.{true}
 use mathlib.Core.List.{List}
 use mathlib.Core.Path.{◌≡◌, sym, ◌∙◌}
 use lib.ListN.{length}
-use borrow.Author.Rules.{rules}
 use Rattle.utf8.specs.Table.{look_at}
 use Rattle.utf8.specs.declared.Look.TheVariants.{Char}
 use Rattle.utf8.proofs.Laws.{at_width}
 use Rattle.white.specs.White.{is_white}
-use Rattle.chars.specs.Cursors.{cursor}
-use Rattle.find.proofs.Skips.{Skipping, skip_begun, skip_end, skip_beyond, skip_other, skip_line, skip_more}
+use Rattle.find.proofs.Skips.{skip_begun, skip_end, skip_beyond, skip_other, skip_line, skip_more}
 use Rattle.find.proofs.skip.Goals as goal
 use Rattle.find.proofs.skip.Goals.{In-Char, Then-is_white}
 

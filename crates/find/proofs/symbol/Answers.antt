@@ -3,7 +3,6 @@ use Prim.Native.Nat.{◌+◌, ◌≤◌, ◌<◌}
 use native.Mathlib.Omega.{arith}
 use mathlib.Core.Path.{◌≡◌, sym, ◌∙◌}
 use lib.ListN.{length}
-use borrow.Author.Rules.{rules}
 use Rattle.symbols.specs.Symbols.{longest_symbol_of}
 use Rattle.symbols.specs.declared.Longest.TheVariants.{Symbol}
 use Rattle.symbols.proofs.Longer.{offset_within}

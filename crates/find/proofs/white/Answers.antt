@@ -1,6 +1,5 @@
 -- Only LF starts a line.
 use mathlib.Core.Path.{sym}
-use borrow.Author.Rules.{rules}
 use Rattle.find.proofs.Begins.{white_line, white_other}
 use Rattle.find.proofs.white.Goals as goal
 

@@ -1,6 +1,5 @@
 -- What the identifier is, or its fault.
 use mathlib.Core.Path.{sym, ap, ◌∙◌}
-use borrow.Author.Rules.{rules}
 use Rattle.identifier.specs.Told.{identified_fault}
 use Rattle.find.proofs.Begins.{a_word, no_word}
 use Rattle.find.proofs.word.Goals as goal

@@ -1,6 +1,5 @@
 -- The questions of the definition, in its order.
 use mathlib.Core.Path.{sym, ◌∙◌}
-use borrow.Author.Rules.{rules}
 use Rattle.identifier.proofs.Arguments.{at_the_door, off_line, at_the_end, by_the_book}
 use Rattle.identifier.proofs.argument.Goals as goal
 

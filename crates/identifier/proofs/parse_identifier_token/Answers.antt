@@ -1,6 +1,5 @@
 -- Who is let in is identified, under a book that was found good.
 use mathlib.Core.Path.{sym, ◌∙◌}
-use borrow.Author.Rules.{rules}
 use Rattle.identifier.proofs.Arguments.{good_book, let_in, refused}
 use Rattle.identifier.proofs.parse_identifier_token.Goals as goal
 

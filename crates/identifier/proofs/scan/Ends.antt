@@ -14,7 +14,6 @@ use Rattle.fault.specs.Faults.{Own}
 use Rattle.chars.specs.declared.stretch.Stretch.TheVariants as Stretch
 use Rattle.chars.proofs.stretch.Ends.{end_reached}
 use Rattle.identifier.specs.Identifiers.{identified_as, spanned, identified_from, identify_of}
-use Rattle.identifier.specs.declared.scan.Word.{Word}
 use Rattle.identifier.specs.declared.scan.Class.{Class}
 use Rattle.identifier.specs.declared.scan.Class.TheVariants.{Is, Malformed}
 use Rattle.identifier.specs.declared.scan.Identified.{Identified}

@@ -1,13 +1,11 @@
 -- A text whose length is not noted under its first byte is listed nowhere; the loop keeps that the text is listed nowhere but from its token on.
-use Prim.Native.Nat.{ℕ, ◌<◌}
+use Prim.Native.Nat.{ℕ}
 use native.Mathlib.Omega.{arith}
 use mathlib.Core.List.{List}
 use mathlib.Core.Path.{◌≡◌}
 use lib.ListN.{length}
-use borrow.Author.Rules.{rules}
-use Rattle.token.specs.Spelt.{word_number}
 use Rattle.token.proofs.word_table.Numbers.{Bytes}
-use Rattle.keywords.proofs.Sought.{Sought, empty_none, long_none, length_none, sought_first, sought_end, sought_next, found, left, goes_on}
+use Rattle.keywords.proofs.Sought.{empty_none, long_none, length_none, sought_first, sought_end, sought_next, found, goes_on}
 use Rattle.keywords.proofs.lookup_symbol_from_syntax.Goals as goal
 use Rattle.keywords.proofs.lookup_symbol_from_syntax.Goals.{After-shared_slice_known-2-1}
 

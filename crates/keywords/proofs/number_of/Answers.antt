@@ -1,8 +1,7 @@
 -- The loop keeps the number of the bytes read.
-use Prim.Native.Nat.{◌-◌}
 use native.Mathlib.Omega.{arith}
-use lib.ListN.{length, get_or}
-use Rattle.token.proofs.word_table.Numbers.{Read, read_none, read_all, read_fits, read_more}
+use lib.ListN.{get_or}
+use Rattle.token.proofs.word_table.Numbers.{read_none, read_all, read_fits, read_more}
 use Rattle.keywords.proofs.number_of.Goals as goal
 
 pub loop-i-init : goal.loop-i-init

@@ -1,10 +1,8 @@
 -- What is still to be filled goes where the whole was to go: the stores left from here are those of the start.
-use Prim.Native.Nat.{◌≤◌, ◌-◌, ◌+◌}
-use mathlib.Core.Path.{◌≡◌, refl, sym, ◌∙◌}
+use mathlib.Core.Path.{refl, sym, ◌∙◌}
 use native.Mathlib.Omega.{arith}
 use borrow.Author.Rules.{rules}
-use lib.ListN.{length, replicate, length-set, length-replicate}
-use lib.Seq.{sets}
+use lib.ListN.{length-set, length-replicate}
 use Rattle.basis.proofs.Stores.{sets_fill, sets_none, stored_whole, after_whole, stored_none, after_none}
 use Rattle.lent.proofs.fill.Goals as goal
 

@@ -1,6 +1,5 @@
 -- With room it is a copy to the front; without, nothing is called.
 use mathlib.Core.Path.{sym}
-use borrow.Author.Rules.{rules}
 use Rattle.lent.proofs.Writes.{refused, untouched, copied, kept}
 use Rattle.lent.proofs.write.Goals as goal
 

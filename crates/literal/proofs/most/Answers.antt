@@ -1,6 +1,5 @@
 -- What is left of the room, and of the limit where there is one.
 use native.Mathlib.Omega.{arith}
-use borrow.Author.Rules.{rules}
 use Rattle.literal.proofs.Turns.{no_limit, not_passed}
 use Rattle.literal.proofs.most.Goals as goal
 

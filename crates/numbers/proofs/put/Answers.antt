@@ -1,12 +1,9 @@
 -- What is still to be spelt goes where the whole was to go: the stores left from here are those of the start.
-use Prim.Native.Nat.{◌≤◌, ◌-◌, ◌+◌}
-use mathlib.Core.Path.{◌≡◌, refl, sym, ◌∙◌}
+use mathlib.Core.Path.{refl, sym, ◌∙◌}
 use native.Mathlib.Omega.{arith}
 use borrow.Author.Rules.{rules}
-use lib.ListN.{length, length-set}
-use lib.Seq.{sets}
+use lib.ListN.{length-set}
 use Rattle.basis.proofs.Stores.{stored_whole, after_whole, stored_none, after_none}
-use Rattle.numbers.specs.Spell.{spell}
 use Rattle.numbers.proofs.Rows.{length_spell, sets_spell, sets_spelt}
 use Rattle.numbers.proofs.put.Goals as goal
 

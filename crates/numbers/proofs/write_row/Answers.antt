@@ -1,10 +1,7 @@
 -- Between two numbers what is still to be spelt goes where the whole was to go.
-use Prim.Native.Nat.{◌-◌}
 use mathlib.Core.Path.{sym}
-use borrow.Author.Rules.{rules}
-use lib.ListN.{length}
 use Rattle.lent.proofs.Writes.{refused, untouched}
-use Rattle.numbers.proofs.Rows.{none_done, none_left, row_short, row_fits, Rowed, begun, goes_on, row_done, row_left}
+use Rattle.numbers.proofs.Rows.{none_done, none_left, row_short, row_fits, begun, goes_on, row_done, row_left}
 use Rattle.numbers.proofs.write_row.Goals as goal
 
 pub returns-then-width-eq0 : goal.returns-then-width-eq0

@@ -1,7 +1,6 @@
 -- The questions of the definition, in its order.
 use mathlib.Core.Bool.{true}
 use mathlib.Core.Path.{◌≡◌, sym, ◌∙◌}
-use borrow.Author.Rules.{rules}
 use Rattle.position.specs.Place.{on_line}
 use Rattle.raw.proofs.Refusals.{at_door, off_line, no_hash, too_many, let_in}
 use Rattle.raw.proofs.asks.Goals as goal

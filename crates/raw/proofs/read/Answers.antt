@@ -2,7 +2,6 @@
 use Prim.Native.Nat.{ℕ, ◌≤◌}
 use mathlib.Core.Path.{◌≡◌, sym, ◌∙◌}
 use lib.ListN.{length}
-use borrow.Author.Rules.{rules}
 use Rattle.literal.specs.Trace.{bytes}
 use Rattle.literal.proofs.Limits.{accepted_whole}
 use Rattle.literal.proofs.Turns.{wrote_accepted, wrote_refused}

@@ -1,5 +1,4 @@
 -- The scan of what was asked is what the definition says.
-use borrow.Author.Rules.{rules}
 use Rattle.raw.specs.Raw.{as_source}
 use Rattle.raw.proofs.Refusals.{resumes_within, resume_answered, resume_left}
 use Rattle.raw.proofs.resume_raw_string_literal.Goals as goal

@@ -1,11 +1,8 @@
 -- What is left to measure from here, with the largest run so far, is what there was from the start.
-use Prim.Native.Nat.{◌≤◌, ◌-◌}
 use native.Mathlib.Omega.{arith}
-use mathlib.Core.Path.{◌≡◌, sym, ◌∙◌}
-use borrow.Author.Rules.{rules}
-use lib.ListN.{length, drop, get_or}
-use Rattle.raw_writer.specs.Writer.{hashes_for}
-use Rattle.raw_writer.proofs.Hashes.{largest, measure_start, measure_turn, measure_end, held_grows}
+use mathlib.Core.Path.{sym, ◌∙◌}
+use lib.ListN.{get_or}
+use Rattle.raw_writer.proofs.Hashes.{measure_start, measure_turn, measure_end, held_grows}
 use Rattle.raw_writer.proofs.hashes_for.Goals as goal
 
 pub loop-i-init : goal.loop-i-init

@@ -1,5 +1,4 @@
 -- The questions of the definition, in its order.
-use borrow.Author.Rules.{rules}
 use borrow.Author.Tests.{eq-eqb, ne_eqb}
 use Rattle.raw_writer.specs.Step.{next_held}
 use Rattle.raw_writer.proofs.next_held.Goals as goal

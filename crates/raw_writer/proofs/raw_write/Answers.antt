@@ -1,7 +1,6 @@
 -- A refused body is refused; any other is measured, and written if there is room.
 use Prim.Native.Nat.{◌≤◌}
 use native.Mathlib.Omega.{arith}
-use borrow.Author.Rules.{rules}
 use lib.ListN.{length}
 use Rattle.raw_writer.proofs.Hashes.{hashes_short}
 use Rattle.raw_writer.proofs.Writes.{is_short, refused, untouched, no_room, left_alone, has_room, done, written}

@@ -1,5 +1,4 @@
 -- Five stores, each behind the one before it.
-use borrow.Author.Rules.{rules}
 use Rattle.raw_writer.proofs.Writes.{all_stored}
 use Rattle.raw_writer.proofs.write.Goals as goal
 

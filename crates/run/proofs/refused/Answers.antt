@@ -1,7 +1,6 @@
 -- The record of the definition.
 use Rattle.position.specs.Place.{start}
 use Rattle.reading.specs.Reading.{entries, literal_bytes}
-use borrow.Author.Rules.{rules}
 use Rattle.run.proofs.refused.Goals as goal
 
 pub returns : goal.returns

@@ -1,6 +1,5 @@
 -- Who is let in is read; else nothing is listed.
 use mathlib.Core.Path.{sym, ap, ◌∙◌}
-use borrow.Author.Rules.{rules}
 use Rattle.reading.specs.Reading.{Left}
 use Rattle.door.proofs.run.Doors.{admitted}
 use Rattle.script.specs.Rules.{document01}

@@ -1,7 +1,6 @@
 -- The last brace of an interpolation closes it.
 use native.Mathlib.Omega.{arith}
 use mathlib.Core.Path.{sym, ◌∙◌}
-use borrow.Author.Rules.{rules}
 use Rattle.script.proofs.Moves.{closes_nothing, closes_last, closes_one}
 use Rattle.script.proofs.closed.Goals as goal
 

@@ -1,6 +1,5 @@
 -- By the definition.
 use mathlib.Core.Path.{refl}
-use borrow.Author.Rules.{rules}
 use Rattle.script.specs.States.{interpolating}
 use Rattle.script.proofs.interpolating.Goals as goal
 

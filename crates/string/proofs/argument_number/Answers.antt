@@ -1,5 +1,4 @@
 -- The door first, then the start: two laws of proofs/Arguments.antt.
-use borrow.Author.Rules.{rules}
 use Rattle.string.proofs.Arguments.{let_in, not_let_in}
 use Rattle.string.proofs.argument_number.Goals as goal
 

@@ -1,6 +1,5 @@
 -- The arguments refused, the scan refused, or the body written by the same scan once more: laws of proofs/Entering.antt.
 use mathlib.Core.Path.{sym, ◌∙◌}
-use borrow.Author.Rules.{rules}
 use Rattle.literal.proofs.Turns.{wrote_refused}
 use Rattle.string.proofs.scan.Keeps.{accepted_kept}
 use Rattle.string.proofs.Entering.{argument_refused, scans, has_room, writes}

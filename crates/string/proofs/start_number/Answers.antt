@@ -1,5 +1,4 @@
 -- Each return is a law of proofs/Arguments.antt.
-use borrow.Author.Rules.{rules}
 use Rattle.string.proofs.Arguments.{begins_line_lem, ordinary_start, char_start, text_start, no_terminator, no_line}
 use Rattle.string.proofs.start_number.Goals as goal
 

@@ -1,6 +1,5 @@
 -- The tests are those of the definition.
 use borrow.Author.Tests.{eq-eqb, ne_eqb}
-use borrow.Author.Rules.{rules}
 use Rattle.symbols.specs.Begun.{assigned_of}
 use Rattle.symbols.proofs.assigned.Goals as goal
 

@@ -1,7 +1,6 @@
 -- Past the end the definition reads 0 too.
 use lib.ListN.{get_or-eq_default}
 use mathlib.Core.Path.{sym}
-use borrow.Author.Rules.{rules}
 use Rattle.symbols.proofs.byte_at.Goals as goal
 
 pub returns : goal.returns

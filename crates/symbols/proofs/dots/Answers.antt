@@ -1,6 +1,5 @@
 -- The tests are those of the definition.
 use borrow.Author.Tests.{eq-eqb, ne_eqb}
-use borrow.Author.Rules.{rules}
 use Rattle.symbols.specs.Begun.{dots_of}
 use Rattle.symbols.proofs.dots.Goals as goal
 

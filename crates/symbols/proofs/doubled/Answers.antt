@@ -1,6 +1,5 @@
 -- The tests are those of the definition.
 use borrow.Author.Tests.{eq-eqb, ne_eqb}
-use borrow.Author.Rules.{rules}
 use Rattle.symbols.specs.Begun.{doubled_of}
 use Rattle.symbols.proofs.doubled.Goals as goal
 

@@ -1,6 +1,5 @@
 -- The test is the definition's.
 use borrow.Author.Tests.{eq-eqb, ne_eqb}
-use borrow.Author.Rules.{rules}
 use Rattle.symbols.specs.Begun.{followed_of}
 use Rattle.symbols.proofs.followed.Goals as goal
 

@@ -4,7 +4,6 @@ use mathlib.Core.Path.{◌≡◌, refl}
 use mathlib.Core.Bool.{false}
 use lib.ListN.{get_or-eq_default}
 use Rattle.classes.specs.Class.{is_numeric_digit, is_id_first_alphabetic, is_id_continue}
-use borrow.Author.Rules.{rules}
 use Rattle.symbols.proofs.goes_on.Goals as goal
 
 not_there : false ≡ is_id_continue 0

@@ -1,6 +1,5 @@
 -- The test is the definition's.
 use borrow.Author.Tests.{eq-eqb, ne_eqb}
-use borrow.Author.Rules.{rules}
 use Rattle.symbols.specs.Begun.{map_start_of}
 use Rattle.symbols.proofs.hash.Goals as goal
 

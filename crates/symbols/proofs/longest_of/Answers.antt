@@ -1,7 +1,6 @@
 -- Each arm answers the longest of the symbols that begin with its byte, and the last has none.
 use native.Mathlib.Omega.{arith}
 use mathlib.Core.Path.{refl, ◌∙◌}
-use borrow.Author.Rules.{rules}
 use Rattle.basis.specs.Words.{word}
 use Rattle.classes.specs.Class.{is_id_first_alphabetic}
 use Rattle.token.specs.Keywords.{keywords}

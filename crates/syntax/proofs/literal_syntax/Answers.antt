@@ -1,6 +1,5 @@
 -- What is written is the text that the token is written as.
 use native.Mathlib.Omega.{arith}
-use borrow.Author.Rules.{rules}
 use Rattle.syntax.proofs.Texts.{syntax_is}
 use Rattle.syntax.proofs.literal_syntax.Goals as goal
 

@@ -1,9 +1,7 @@
 -- The loop keeps that the bytes put down are the last of the token's number.
 use native.Mathlib.Omega.{arith}
 use mathlib.Core.Path.{refl}
-use borrow.Author.Rules.{rules}
-use Rattle.token.specs.Spelt.{spelt_of}
-use Rattle.syntax.proofs.Texts.{Spelling, spelling_none, spelling_room, spelling_more, spelling_all}
+use Rattle.syntax.proofs.Texts.{spelling_none, spelling_room, spelling_more, spelling_all}
 use Rattle.syntax.proofs.text_of.Goals as goal
 
 pub loop-v-init : goal.loop-v-init

@@ -1,6 +1,5 @@
 -- The last end stays, or is the place behind the token.
 use mathlib.Core.Path.{sym, ◌∙◌}
-use borrow.Author.Rules.{rules}
 use Rattle.token_ends.proofs.Records.{comment_recorded, end_recorded, token_recorded}
 use Rattle.token_ends.proofs.record_token.Goals as goal
 

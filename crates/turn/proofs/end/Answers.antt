@@ -1,5 +1,4 @@
 -- The end, or 11.
-use borrow.Author.Rules.{rules}
 use Rattle.turn.proofs.Stepping.{end_here, end_open}
 use Rattle.turn.proofs.end.Goals as goal
 

@@ -5,7 +5,6 @@ use mathlib.Core.List.{List}
 use mathlib.Core.Path.{◌≡◌, sym, ap, ◌∙◌}
 use lib.Dec.{eqb}
 use lib.ListN.{length}
-use borrow.Author.Rules.{rules}
 use Rattle.basis.specs.Store.{over}
 use Rattle.utf8.specs.Table.{chars, look_at}
 use Rattle.utf8.specs.declared.Look.{Look}

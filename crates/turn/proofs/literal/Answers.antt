@@ -3,7 +3,6 @@ use Prim.Native.Nat.{ℕ}
 use mathlib.Core.List.{List}
 use mathlib.Core.Path.{◌≡◌, sym, ◌∙◌}
 use lib.ListN.{replicate}
-use borrow.Author.Rules.{rules}
 use Rattle.literal.specs.Trace.{Trace, bytes}
 use Rattle.literal.specs.Told.{scanned_fault}
 use Rattle.literal.specs.declared.Refusal.{Refusal}

@@ -1,6 +1,5 @@
 -- A raw literal, or one with a terminator.
 use mathlib.Core.Path.{◌∙◌}
-use borrow.Author.Rules.{rules}
 use Rattle.script.specs.Rules.{document01}
 use Rattle.turn.proofs.Literals.{raw_trace_lem, string_trace_lem, string_cut}
 use Rattle.turn.proofs.measure.Goals as goal

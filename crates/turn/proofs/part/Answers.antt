@@ -1,6 +1,5 @@
 -- Listed where there is room, else 10.
 use native.Mathlib.Omega.{arith}
-use borrow.Author.Rules.{rules}
 use Rattle.script.specs.States.{behind_of}
 use Rattle.turn.proofs.Stepping.{part_listed, part_full}
 use Rattle.turn.proofs.part.Goals as goal

@@ -1,6 +1,5 @@
 -- The fault that was made, in the stop that was made.
 use mathlib.Core.Path.{◌∙◌}
-use borrow.Author.Rules.{rules}
 use Rattle.turn.proofs.stop.Goals as goal
 
 pub returns : goal.returns

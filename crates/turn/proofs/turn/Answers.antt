@@ -4,7 +4,6 @@ use native.Mathlib.Omega.{arith}
 use mathlib.Core.Bool.{false}
 use mathlib.Core.List.{List, []}
 use mathlib.Core.Path.{◌≡◌, refl, sym, ap, ◌∙◌}
-use borrow.Author.Rules.{rules}
 use Rattle.chars.specs.declared.cursor.Cursor.{Cursor}
 use Rattle.white.specs.White.{is_white}
 use Rattle.find.specs.Find.{find_of}

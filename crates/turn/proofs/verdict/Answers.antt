@@ -1,7 +1,6 @@
 -- Each test by its law.
 use native.Mathlib.Omega.{arith}
 use mathlib.Core.Path.{sym, ◌∙◌}
-use borrow.Author.Rules.{rules}
 use Rattle.turn.proofs.Literals.{still_open_lem, too_deep_lem, fine_piece, fine_char, no_char_lem, fine_other}
 use Rattle.turn.proofs.verdict.Goals as goal
 

@@ -4,7 +4,6 @@ use native.Mathlib.Omega.{arith}
 use mathlib.Core.List.{List}
 use mathlib.Core.Path.{◌≡◌, ap, ◌∙◌}
 use lib.ListN.{length, take, drop}
-use borrow.Author.Rules.{rules}
 use Rattle.basis.specs.Store.{over}
 use Rattle.literal.specs.Answers.{full}
 use Rattle.literal.specs.Trace.{Trace, bytes}

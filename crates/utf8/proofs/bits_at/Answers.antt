@@ -1,6 +1,5 @@
 -- The tests are those of the definition, made on the byte that stands at the offset.
 use native.Mathlib.Omega.{arith}
-use borrow.Author.Rules.{rules}
 use borrow.Author.Tests.{le-leb, lt-leb}
 use Rattle.basis.proofs.Bytes.{here, past}
 use Rattle.utf8.proofs.bits_at.Goals as goal

@@ -1,7 +1,6 @@
 -- The bytes of the row, one by one.
 use native.Mathlib.Omega.{arith}
 use mathlib.Core.Path.{refl}
-use borrow.Author.Rules.{rules}
 use Rattle.basis.proofs.Cases.{not_both}
 use Rattle.utf8.proofs.Widths.{row_four_low, fits_on, fits_bits, fits_bits_from}
 use Rattle.utf8.proofs.is_four.Goals as goal

@@ -1,7 +1,6 @@
 -- The bytes of the row, one by one.
 use native.Mathlib.Omega.{arith}
 use mathlib.Core.Path.{refl}
-use borrow.Author.Rules.{rules}
 use Rattle.basis.proofs.Cases.{not_both}
 use Rattle.utf8.proofs.Widths.{row_three, fits_on, fits_bits}
 use Rattle.utf8.proofs.is_three.Goals as goal

@@ -1,9 +1,7 @@
 -- Each turn of the loop joins one further byte: `Joining` of proofs/Bits.antt says what holds between turns.
-use Prim.Native.Nat.{◌+◌, ◌-◌}
 use native.Mathlib.Omega.{arith}
 use mathlib.Core.Path.{sym}
-use borrow.Author.Rules.{rules}
-use Rattle.utf8.proofs.Bits.{Joining, start, step, out, done, fits}
+use Rattle.utf8.proofs.Bits.{start, step, out, done, fits}
 use Rattle.utf8.proofs.joined.Goals as goal
 
 pub loop-i-init : goal.loop-i-init

@@ -1,7 +1,6 @@
 -- Each return has a first byte that says how many further bytes there are, or that no character begins with it.
 use native.Mathlib.Omega.{arith}
 use mathlib.Core.Path.{sym, ◌∙◌}
-use borrow.Author.Rules.{rules}
 use Rattle.utf8.proofs.Bits.{look_inside, look_beyond, sized_look}
 use Rattle.utf8.proofs.longer.Goals as goal
 

@@ -1,7 +1,6 @@
 -- Past the end there is no byte; a byte below 80 is a character; any other is the first of a longer one, which `longer` reads.
 use native.Mathlib.Omega.{arith}
 use mathlib.Core.Path.{◌∙◌}
-use borrow.Author.Rules.{rules}
 use Rattle.utf8.proofs.Laws.{look_past}
 use Rattle.utf8.proofs.Bits.{look_ascii, look_here}
 use Rattle.utf8.proofs.look_at.Goals as goal

@@ -1,6 +1,5 @@
 -- The tests are those of the definition, made on the number that the bits make.
 use mathlib.Core.Path.{sym, ◌∙◌}
-use borrow.Author.Rules.{rules}
 use borrow.Author.Tests.{le-leb, lt-leb}
 use Rattle.utf8.specs.Bits.{sized_of}
 use Rattle.utf8.proofs.sized.Goals as goal

@@ -1,7 +1,6 @@
 -- The common rows tell the width, and else the character that `longer` reads.
 use native.Mathlib.Omega.{arith}
 use mathlib.Core.Path.{sym, ◌∙◌}
-use borrow.Author.Rules.{rules}
 use Rattle.utf8.proofs.Widths.{row_none, row_two, fits_bits, fits_no_bits, char_width, end_width}
 use Rattle.utf8.proofs.width.Goals as goal
 

@@ -1,6 +1,5 @@
 -- The one edition's test.
 use mathlib.Core.Path.{sym, ◌∙◌}
-use borrow.Author.Rules.{rules}
 use Rattle.white.proofs.Whites.{in_later}
 use Rattle.white.proofs.is_white_in.Goals as goal
 

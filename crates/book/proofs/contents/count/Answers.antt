@@ -1,6 +1,5 @@
 -- A book with no count is short, and so is one that ends before its last row. Assumes nothing.
 use native.Mathlib.Omega.{arith}
-use borrow.Author.Rules.{rules}
 use Rattle.book.proofs.contents.Parts.{no_count, too_short, has_count}
 use Rattle.book.proofs.contents.count.Goals as goal
 

@@ -1,5 +1,4 @@
 -- The part is cut at the book's end; a body that starts within the book lies where it starts. Assumes nothing.
-use borrow.Author.Rules.{rules}
 use Rattle.book.proofs.contents.Parts.{row_start, row_size, past_end, cut_off_lem, inside, lies, lies_past}
 use Rattle.book.proofs.contents.text_at.Goals as goal
 

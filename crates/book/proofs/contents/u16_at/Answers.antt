@@ -3,7 +3,6 @@ use Prim.Native.Nat.{◌+◌}
 use mathlib.Core.Path.{refl}
 use Rattle.book.specs.Contents.{u16_at}
 use native.Mathlib.Omega.{arith}
-use borrow.Author.Rules.{rules}
 use Rattle.book.proofs.contents.u16_at.Goals as goal
 
 pub overflow_cast-low : goal.overflow_cast-low

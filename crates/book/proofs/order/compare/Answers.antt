@@ -1,8 +1,5 @@
 -- The loop passes the bytes that are the same in both texts; the first that differs, or the end of one, decides. Assumes nothing.
-use Prim.Native.Nat.{◌-◌}
-use lib.ListN.{length}
-use Rattle.book.proofs.order.Texts.{Alike, alike_start, longer, first_less, first_greater, alike_next, shorter, no_longer}
-use borrow.Author.Rules.{rules}
+use Rattle.book.proofs.order.Texts.{alike_start, longer, first_less, first_greater, alike_next, shorter, no_longer}
 use Rattle.book.proofs.order.compare.Goals as goal
 
 pub loop-i-init : goal.loop-i-init

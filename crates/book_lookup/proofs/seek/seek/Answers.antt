@@ -1,8 +1,6 @@
 -- The loop halves the stretch of words that may hold the text. Assumes nothing.
-use Prim.Native.Nat.{◌-◌}
-use borrow.Author.Rules.{rules}
 use Rattle.book.proofs.contents.Parts.{is_short, is_count, is_enough, has_rows}
-use Rattle.book_lookup.proofs.seek.Sought.{Seeking, seeking_start, behind, before, there, not_there, short_book}
+use Rattle.book_lookup.proofs.seek.Sought.{seeking_start, behind, before, there, not_there, short_book}
 use Rattle.book_lookup.proofs.seek.seek.Goals as goal
 
 pub returns-in_default : goal.returns-in_default

@@ -1,6 +1,5 @@
 -- One check after the other. Assumes nothing.
 use Rattle.book_lookup.proofs.Places.{one_bad, first_good}
-use borrow.Author.Rules.{rules}
 use Rattle.book_lookup.proofs.two_books.both_good.Goals as goal
 
 pub returns-then-check-ne0 : goal.returns-then-check-ne0

@@ -1,6 +1,5 @@
 -- In good books the search finds what stands there, and a body lies where it starts; one law for each way out. Assumes nothing.
 use Rattle.book_lookup.proofs.Places.{row_counted, row_written, bad_part, bad_place, house_part, house_place, office_part, office_place, no_part, no_place}
-use borrow.Author.Rules.{rules}
 use Rattle.book_lookup.proofs.two_books.find.Goals as goal
 
 pub returns-then-not-both_good : goal.returns-then-not-both_good

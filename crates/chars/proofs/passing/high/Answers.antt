@@ -1,12 +1,12 @@
 -- The stretch so far; while it has no character, the loop stands where it began.
-use Prim.Native.Nat.{ℕ, ◌+◌, ◌-◌, ◌≤◌, ◌<◌}
+use Prim.Native.Nat.{ℕ, ◌+◌, ◌≤◌, ◌<◌}
 use native.Mathlib.Omega.{arith}
 use mathlib.Core.List.{List}
 use mathlib.Core.Path.{◌≡◌, refl, ap, sym, ◌∙◌}
 use lib.ListN.{length, get_or}
 use Rattle.utf8.specs.Table.{look_at}
 use Rattle.utf8.proofs.Laws.{at_width}
-use Rattle.chars.specs.Stretch.{StretchOf, none, more, NextChar, High}
+use Rattle.chars.specs.Stretch.{none, more, NextChar, High}
 use Rattle.chars.proofs.Stretches.{stretch_low}
 use Rattle.chars.proofs.passing.high.Goals as goal
 use Rattle.chars.proofs.passing.high.Goals.{After-width-w, At-loop-at}

@@ -4,7 +4,6 @@ use native.Mathlib.Omega.{arith}
 use mathlib.Core.List.{List}
 use mathlib.Core.Path.{◌≡◌, refl, sym, ◌∙◌}
 use lib.ListN.{length}
-use borrow.Author.Rules.{rules}
 use Rattle.utf8.proofs.Bits.{look_ascii}
 use Rattle.chars.specs.Stretch.{StretchOf, High, Other}
 use Rattle.chars.proofs.Stretches.{stretch_low, one_more, no_more, then_more, high_other}

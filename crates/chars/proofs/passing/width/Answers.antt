@@ -4,7 +4,6 @@ use native.Mathlib.Omega.{arith}
 use mathlib.Core.List.{List, ◌∷◌}
 use mathlib.Core.Path.{◌≡◌, refl, ap, ◌∙◌}
 use lib.ListN.{length, drop, get_or}
-use borrow.Author.Rules.{rules}
 use Rattle.utf8.specs.Table.{look, look_at}
 use Rattle.utf8.specs.Widths.{width_of}
 use Rattle.utf8.specs.declared.Look.TheVariants.{End}

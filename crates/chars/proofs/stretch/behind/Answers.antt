@@ -1,5 +1,4 @@
 -- The cursor is made of the offset and the place.
-use borrow.Author.Rules.{rules}
 use Rattle.chars.proofs.stretch.behind.Goals as goal
 
 pub returns : goal.returns

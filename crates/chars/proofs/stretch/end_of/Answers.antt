@@ -1,5 +1,4 @@
 -- Each stretch ends where the definition says: proofs/Ends.antt.
-use borrow.Author.Rules.{rules}
 use Rattle.chars.proofs.stretch.Ends.{is_end}
 use Rattle.chars.proofs.stretch.end_of.Goals as goal
 

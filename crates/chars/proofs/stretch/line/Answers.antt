@@ -1,15 +1,13 @@
 -- What was passed is a stretch of characters that go on; where it stops none does: proofs/Ends.antt.
-use Prim.Native.Nat.{ℕ, ◌-◌, ◌≤◌}
+use Prim.Native.Nat.{ℕ, ◌≤◌}
 use native.Mathlib.Omega.{arith}
 use mathlib.Core.List.{List}
 use mathlib.Core.Path.{refl, sym}
 use lib.ListN.{length}
-use borrow.Author.Rules.{rules}
 use Rattle.utf8.proofs.Bits.{look_ascii}
 use Rattle.utf8.proofs.Laws.{look_past}
 use Rattle.chars.specs.Stretch.{StretchOf, none, more, High}
 use Rattle.chars.proofs.Stretches.{stretch_low, then_more}
-use Rattle.chars.specs.Passing.{Goes}
 use Rattle.chars.specs.declared.stretch.Stretch.TheVariants.{Line}
 use Rattle.chars.proofs.stretch.Ends.{ends_there, stops_there, line_goes, line_stops}
 use Rattle.chars.proofs.stretch.line.Goals as goal

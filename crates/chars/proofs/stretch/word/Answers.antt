@@ -1,13 +1,9 @@
 -- Each byte that was passed is a character that goes on; where it stops none begins that does: proofs/Ends.antt.
-use Prim.Native.Nat.{◌-◌, ◌≤◌}
+use Prim.Native.Nat.{◌-◌}
 use native.Mathlib.Omega.{arith}
 use mathlib.Core.Path.{◌≡◌}
-use lib.ListN.{length}
-use borrow.Author.Rules.{rules}
 use Rattle.utf8.proofs.Laws.{look_past}
-use Rattle.chars.specs.Stretch.{StretchOf}
 use Rattle.chars.proofs.Stretches.{no_more, one_more}
-use Rattle.chars.specs.Passing.{Goes}
 use Rattle.chars.specs.declared.stretch.Stretch.TheVariants.{Word}
 use Rattle.chars.proofs.stretch.Ends.{ends_there, word_goes, word_byte, word_stops}
 use Rattle.chars.proofs.stretch.word.Goals as goal

@@ -1,5 +1,4 @@
 -- The two questions of the definition, in its order.
-use borrow.Author.Rules.{rules}
 use Rattle.comment.proofs.doc.Words.{by_slashes, by_stars}
 use Rattle.comment.proofs.doc.is_doc_comment.Goals as goal
 

@@ -1,6 +1,5 @@
 -- The questions of the definition, byte by byte.
 use mathlib.Core.Path.{sym}
-use borrow.Author.Rules.{rules}
 use Rattle.comment.proofs.doc.Words.{short, no_slash, no_second, no_third, no_more, a_fourth}
 use Rattle.comment.proofs.doc.twice.Goals as goal
 

@@ -1,6 +1,5 @@
 -- A character was taken, which is the one asked for or another; or none was.
 use mathlib.Core.Path.{sym, ◌∙◌}
-use borrow.Author.Rules.{rules}
 use Rattle.comment.proofs.scan.Turns.{eaten, another, none_there}
 use Rattle.comment.proofs.scan.eat_if.Goals as goal
 

@@ -2,7 +2,6 @@
 use Prim.Native.Nat.{◌-◌}
 use mathlib.Core.Path.{◌≡◌}
 use lib.ListN.{length}
-use Rattle.chars.specs.Cursors.{cursor}
 use Rattle.comment.specs.Block.{comment_of}
 use Rattle.comment.specs.Step.{LevelFits}
 use Rattle.comment.proofs.scan.scan.Given as goal

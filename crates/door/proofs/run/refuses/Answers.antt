@@ -1,6 +1,5 @@
 -- The questions of the definition, in its order.
 use mathlib.Core.Path.{sym, ◌∙◌}
-use borrow.Author.Rules.{rules}
 use Rattle.door.proofs.run.Doors.{text_first, by_the_book}
 use Rattle.door.proofs.run.refuses.Goals as goal
 

@@ -1,6 +1,5 @@
 -- What the lookup found, or else what no list has.
 use mathlib.Core.Path.{sym, ◌∙◌}
-use borrow.Author.Rules.{rules}
 use Rattle.identifier.proofs.scan.Answers.{class-listed, class-unlisted}
 use Rattle.identifier.proofs.scan.class_of.Goals as goal
 

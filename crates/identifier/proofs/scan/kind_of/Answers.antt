@@ -1,7 +1,6 @@
 -- The first byte decides, where there is one.
 use native.Mathlib.Omega.{arith}
 use mathlib.Core.Path.{sym, ◌∙◌}
-use borrow.Author.Rules.{rules}
 use Rattle.identifier.proofs.scan.Answers.{kind_none, kind-letter, kind-other}
 use Rattle.identifier.proofs.scan.kind_of.Goals as goal
 

@@ -1,7 +1,6 @@
 -- The book, and then validity.
 use mathlib.Core.Bool.{Bool}
 use mathlib.Core.Path.{sym, ap, ◌∙◌}
-use borrow.Author.Rules.{rules}
 use Rattle.book_lookup.specs.declared.Reserved.{Reserved}
 use Rattle.identifier.proofs.scan.Answers.{is-reserved, is_name, is-malformed}
 use Rattle.identifier.proofs.scan.unlisted.Goals as goal

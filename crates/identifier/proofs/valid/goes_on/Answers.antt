@@ -1,10 +1,6 @@
 -- What goes on from here goes on from the start, since every byte passed does.
-use Prim.Native.Nat.{◌-◌, ◌≤◌}
 use native.Mathlib.Omega.{arith}
-use mathlib.Core.Path.{◌≡◌, refl, sym, ◌∙◌}
-use borrow.Author.Rules.{rules}
-use lib.ListN.{length, drop}
-use Rattle.identifier.specs.Valid.{all_continue}
+use mathlib.Core.Path.{refl, sym, ◌∙◌}
 use Rattle.identifier.proofs.valid.Valids.{on, off, all_on}
 use Rattle.identifier.proofs.valid.goes_on.Goals as goal
 

@@ -1,7 +1,6 @@
 -- Behind the underscores stands a letter or not, and the rest goes on or not.
 use native.Mathlib.Omega.{arith}
 use mathlib.Core.Path.{sym, ◌∙◌}
-use borrow.Author.Rules.{rules}
 use Rattle.identifier.proofs.valid.Valids.{letter, no_letter, nothing_left}
 use Rattle.identifier.proofs.valid.is_valid_identifier.Goals as goal
 

@@ -1,10 +1,7 @@
 -- What is left after the underscores from here is what is left from the start.
-use Prim.Native.Nat.{◌-◌, ◌≤◌}
 use native.Mathlib.Omega.{arith}
-use mathlib.Core.Path.{◌≡◌, refl, sym, ◌∙◌}
+use mathlib.Core.Path.{refl, sym, ◌∙◌}
 use borrow.Author.Rules.{rules}
-use lib.ListN.{length, drop}
-use Rattle.identifier.specs.Valid.{after_underscores}
 use Rattle.identifier.proofs.valid.Valids.{underscore, no_underscore, all_underscores}
 use Rattle.identifier.proofs.valid.underscores.Goals as goal
 

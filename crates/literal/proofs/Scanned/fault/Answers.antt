@@ -1,6 +1,5 @@
 -- Each case by the definition.
 use mathlib.Core.Path.{sym, ap}
-use borrow.Author.Rules.{rules}
 use Rattle.position.specs.Place.{none}
 use Rattle.literal.specs.Told.{scanned_fault}
 use Rattle.literal.proofs.Scanned.fault.Goals as goal

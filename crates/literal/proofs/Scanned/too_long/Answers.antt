@@ -1,5 +1,4 @@
 -- The record, with the fault that was made.
-use borrow.Author.Rules.{rules}
 use Rattle.literal.proofs.Scanned.too_long.Goals as goal
 
 pub returns : goal.returns

@@ -1,5 +1,4 @@
 -- It is the line as a number of the place.
-use borrow.Author.Rules.{rules}
 use Rattle.places.specs.Coordinates.{line_option}
 use Rattle.places.proofs.coordinates.line.Goals as goal
 

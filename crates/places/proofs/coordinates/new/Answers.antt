@@ -1,5 +1,4 @@
 -- The test is the definition's.
-use borrow.Author.Rules.{rules}
 use borrow.Author.Tests.{eq-eqb, ne_eqb}
 use Rattle.places.specs.Coordinates.{new_of}
 use Rattle.places.proofs.coordinates.new.Goals as goal

@@ -1,5 +1,4 @@
 -- The test is the definition's.
-use borrow.Author.Rules.{rules}
 use mathlib.Core.Path.{sym, ◌∙◌}
 use Rattle.places.specs.Coordinates.{numbered}
 use Rattle.places.proofs.coordinates.numbered.Goals as goal

@@ -1,5 +1,4 @@
 -- The test is the definition's, and the column a number of the place.
-use borrow.Author.Rules.{rules}
 use mathlib.Core.Path.{sym, ◌∙◌}
 use borrow.Author.Tests.{eq-eqb, ne_eqb}
 use Rattle.places.specs.Coordinates.{position_option}

@@ -1,6 +1,5 @@
 -- The test is the definition's.
 use mathlib.Core.Path.{sym, ◌∙◌}
-use borrow.Author.Rules.{rules}
 use Rattle.places.specs.Moves.{moved}
 use Rattle.places.proofs.moves.moved.Goals as goal
 

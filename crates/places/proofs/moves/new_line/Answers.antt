@@ -1,5 +1,4 @@
 -- It is the move that `moved` allows or refuses.
-use borrow.Author.Rules.{rules}
 use Rattle.places.specs.Moves.{new_line_of}
 use Rattle.places.proofs.moves.new_line.Goals as goal
 

@@ -1,6 +1,5 @@
 -- Past column 0 it is the move that `moved` allows or refuses.
 use mathlib.Core.Path.{sym, ◌∙◌}
-use borrow.Author.Rules.{rules}
 use borrow.Author.Tests.{eq-eqb, ne_eqb}
 use Rattle.places.specs.Moves.{rewind_of}
 use Rattle.places.proofs.moves.rewind.Goals as goal

@@ -1,7 +1,6 @@
 -- The code's tests are the definition's.
 use mathlib.Core.Bool.{true, false}
 use mathlib.Core.Path.{◌≡◌, sym, ◌∙◌}
-use borrow.Author.Rules.{rules}
 use Rattle.position.specs.Place.{is_none, on_line}
 use Rattle.places.proofs.sum.Sums.{right_none, left_off, right_off, both_on}
 use Rattle.places.proofs.sum.sum.Goals as goal

@@ -1,7 +1,6 @@
 -- The numbers read are those of the places, and the test is the definition's.
 use native.Mathlib.Omega.{arith}
 use mathlib.Core.Path.{◌∙◌}
-use borrow.Author.Rules.{rules}
 use Rattle.position.proofs.Moves.{on_line_lem}
 use Rattle.places.proofs.sum.Sums.{lines_pass, lines_fit}
 use Rattle.places.proofs.sum.sum_lines.Goals as goal

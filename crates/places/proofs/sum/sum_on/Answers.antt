@@ -1,7 +1,6 @@
 -- The code's tests are the definition's.
 use native.Mathlib.Omega.{arith}
 use mathlib.Core.Path.{ap, ◌∙◌}
-use borrow.Author.Rules.{rules}
 use Rattle.places.specs.declared.coordinates.Placed.TheVariants.{At}
 use Rattle.places.proofs.sum.Sums.{no_column, columns_pass, columns_fit}
 use Rattle.places.proofs.sum.sum_on.Goals as goal

@@ -1,7 +1,6 @@
 -- As many columns on as there are, up to the last: proofs/Moves.antt.
 use native.Mathlib.Omega.{arith}
 use mathlib.Core.Path.{sym, ap, ◌∙◌}
-use borrow.Author.Rules.{rules}
 use Rattle.position.specs.Place.{place}
 use Rattle.position.proofs.Moves.{advanced_by_numbers}
 use Rattle.position.proofs.Position.advanced_by.Goals as goal

@@ -1,5 +1,4 @@
 -- The second test is asked only where the first holds.
-use borrow.Author.Rules.{rules}
 use borrow.Author.Tests.{eq-eqb, ne_eqb}
 use Rattle.position.specs.Place.{begins_line}
 use Rattle.position.proofs.Position.is_beginning_of_line.Goals as goal

@@ -1,5 +1,4 @@
 -- The test is the definition's.
-use borrow.Author.Rules.{rules}
 use mathlib.Core.Path.{sym, ◌∙◌}
 use Rattle.position.specs.Place.{or_else}
 use Rattle.position.proofs.Position.or_else.Goals as goal

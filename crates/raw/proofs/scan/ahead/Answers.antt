@@ -1,5 +1,4 @@
 -- One thing passed behind the other: proofs/Passing.antt.
-use Prim.Native.Nat.{◌-◌}
 use native.Mathlib.Omega.{arith}
 use mathlib.Core.Path.{◌≡◌}
 use Rattle.raw.specs.Step.{BodyPasses}

@@ -1,6 +1,5 @@
 -- Each way out is one law of the cursor behind a character.
 use mathlib.Core.Path.{sym}
-use borrow.Author.Rules.{rules}
 use Rattle.raw.proofs.scan.Steps.{behind_line, behind_failed, behind_plain}
 use Rattle.raw.proofs.scan.behind.Goals as goal
 

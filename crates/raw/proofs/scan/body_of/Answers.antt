@@ -1,9 +1,6 @@
 -- What a limit and a room leave of the reading from here is the whole answer: proofs/Stands.antt.
-use Prim.Native.Nat.{◌-◌}
 use native.Mathlib.Omega.{arith}
 use mathlib.Core.Path.{◌≡◌, refl, sym, ◌∙◌}
-use lib.ListN.{length}
-use borrow.Author.Rules.{rules}
 use Rattle.position.proofs.Moves.{none_is}
 use Rattle.chars.specs.Cursors.{eat_next_of}
 use Rattle.chars.specs.declared.cursor.Taken.TheVariants.{Char}

@@ -1,7 +1,6 @@
 -- A byte of ASCII is a character; the width of a longer one tells it.
 use native.Mathlib.Omega.{arith}
 use mathlib.Core.Path.{refl, sym}
-use borrow.Author.Rules.{rules}
 use Rattle.utf8.proofs.Bits.{look_ascii}
 use Rattle.utf8.proofs.Laws.{at_width}
 use Rattle.utf8.proofs.Widths.{wide_char, at_high}

@@ -1,9 +1,6 @@
 -- Each byte that was passed is a hash, and they are as many as are counted.
-use Prim.Native.Nat.{◌+◌, ◌-◌}
 use native.Mathlib.Omega.{arith}
-use mathlib.Core.Path.{◌≡◌}
-use borrow.Author.Rules.{rules}
-use Rattle.raw.specs.Step.{Hashes, none, more}
+use Rattle.raw.specs.Step.{none, more}
 use Rattle.raw.proofs.scan.Passing.{one_byte}
 use Rattle.raw.proofs.scan.hashes_at.Goals as goal
 

@@ -1,6 +1,5 @@
 -- Each way out is one law of what is held back.
 use mathlib.Core.Path.{sym}
-use borrow.Author.Rules.{rules}
 use Rattle.raw.proofs.scan.Steps.{held_quote, held_outside, held_other, held_hash}
 use Rattle.raw.proofs.scan.holds.Goals as goal
 

@@ -2,7 +2,6 @@
 use native.Mathlib.Omega.{arith}
 use mathlib.Core.Path.{refl}
 use lib.ListN.{length}
-use borrow.Author.Rules.{rules}
 use Rattle.chars.specs.Stretch.{NextChar}
 use Rattle.raw.specs.Step.{Failing, again, ended}
 use Rattle.raw.proofs.scan.lost_at.Goals as goal

@@ -1,7 +1,6 @@
 -- What the opening leaves is measured, or is a refusal.
 use Prim.Native.Nat.{◌≤◌}
 use mathlib.Core.Path.{◌≡◌, sym, subst, ◌∙◌}
-use borrow.Author.Rules.{rules}
 use Rattle.literal.proofs.Turns.{cut_fails}
 use Rattle.raw.specs.Opening.{refusal_of, opened_of}
 use Rattle.raw.specs.declared.open.Opened.TheVariants.{At}

@@ -3,7 +3,6 @@ use Prim.Native.Nat.{◌+◌, ◌≤◌}
 use native.Mathlib.Omega.{arith}
 use mathlib.Core.Path.{refl, ap, ◌∙◌}
 use lib.ListN.{length}
-use borrow.Author.Rules.{rules}
 use Rattle.position.specs.Place.{or_else}
 use Rattle.utf8.proofs.Laws.{at_width}
 use Rattle.raw.specs.Step.{LostAt}

@@ -1,7 +1,6 @@
 -- A line feed is one turn: proofs/Passing.antt.
 use native.Mathlib.Omega.{arith}
 use mathlib.Core.Path.{refl, ap, ◌∙◌}
-use borrow.Author.Rules.{rules}
 use Rattle.position.specs.Place.{lined}
 use Rattle.raw.proofs.scan.Passing.{one_byte, passes_none, passes_line}
 use Rattle.raw.proofs.scan.pass_one.Goals as goal

@@ -2,7 +2,6 @@
 use Prim.Native.Nat.{◌+◌, ◌≤◌}
 use native.Mathlib.Omega.{arith}
 use mathlib.Core.Path.{refl, ap, ◌∙◌}
-use borrow.Author.Rules.{rules}
 use Rattle.position.specs.Place.{or_else}
 use Rattle.chars.proofs.Stretches.{stretch_low}
 use Rattle.raw.specs.declared.scan.Stand.{Stand}

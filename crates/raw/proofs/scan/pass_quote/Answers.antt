@@ -1,6 +1,5 @@
 -- An attempt without a hash, or one with fewer than k.
 use native.Mathlib.Omega.{arith}
-use borrow.Author.Rules.{rules}
 use Rattle.utf8.proofs.Laws.{at_width}
 use Rattle.raw.specs.Step.{none}
 use Rattle.raw.proofs.scan.Passing.{passes_none}

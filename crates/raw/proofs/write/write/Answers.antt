@@ -2,7 +2,6 @@
 use Prim.Native.Nat.{◌+◌, ◌≤◌}
 use native.Mathlib.Omega.{arith}
 use lib.ListN.{length}
-use borrow.Author.Rules.{rules}
 use Rattle.raw.specs.Raw.{as_source}
 use Rattle.raw.proofs.write.Parts.{nothing_to_write, reaches, written}
 use Rattle.raw.proofs.write.write.Goals as goal

@@ -1,5 +1,4 @@
 -- The memory for entries is that of bytes.
-use borrow.Author.Rules.{rules}
 use Rattle.run.proofs.bytes.run.Goals as goal
 
 pub returns : goal.returns

@@ -1,5 +1,4 @@
 -- The row of the entry's numbers goes to its part of the memory.
-use borrow.Author.Rules.{rules}
 use Rattle.run.proofs.Rows.{entry_stored, row_is}
 use Rattle.run.proofs.layout.put_bytes.Goals as goal
 

@@ -1,5 +1,4 @@
 -- Five stores, one behind the other.
-use borrow.Author.Rules.{rules}
 use Rattle.run.proofs.Rows.{five_stored, second_room, third_room, fourth_room, fifth_room}
 use Rattle.run.proofs.layout.put_numbers.Goals as goal
 

@@ -1,5 +1,4 @@
 -- The memory of the layout at hand.
-use borrow.Author.Rules.{rules}
 use Rattle.run.proofs.layout.room.Goals as goal
 
 pub returns-in-Numbers : goal.returns-in-Numbers

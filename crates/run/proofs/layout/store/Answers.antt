@@ -1,5 +1,4 @@
 -- The memory of the layout at hand; the other stays as it is.
-use borrow.Author.Rules.{rules}
 use Rattle.run.proofs.layout.store.Goals as goal
 
 pub put_numbers-requires : goal.put_numbers-requires

@@ -1,5 +1,4 @@
 -- The room for entries is asked of the layout; the rest is as it is given.
-use borrow.Author.Rules.{rules}
 use Rattle.run.proofs.tokens.fresh.Goals as goal
 
 pub returns : goal.returns

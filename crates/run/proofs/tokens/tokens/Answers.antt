@@ -1,22 +1,21 @@
 -- Between two turns what the run will have left is what it would have left from the start: proofs/Finishes.antt.
-use Prim.Native.Nat.{ℕ, ◌-◌, ◌*◌, ◌/◌}
+use Prim.Native.Nat.{ℕ, ◌/◌}
 use native.Mathlib.Omega.{arith}
 use mathlib.Core.List.{List}
 use mathlib.Core.Path.{◌≡◌, refl, sym, ap, ◌∙◌}
 use lib.ListN.{length}
 use borrow.Author.Rules.{rules}
 use Rattle.position.specs.Place as Place
-use Rattle.reading.specs.CutRun.{bounds, cut_run}
+use Rattle.reading.specs.CutRun.{cut_run}
 use Rattle.reading.specs.declared.Bounds.{Bounds}
 use Rattle.script.specs.Rules.{document01}
 use Rattle.script.specs.Script.{script_of}
-use Rattle.script.specs.States.{begun}
 use Rattle.script.proofs.Counts.{uncounted_state}
 use Rattle.turn.specs.declared.Room.{Room}
 use Rattle.run.specs.Run.{holds}
 use Rattle.run.specs.Layouts.{entry_width, laid_by, memory_of}
 use Rattle.run.specs.declared.layout.Layout.{Layout}
-use Rattle.run.proofs.Finishes.{Running, run_fine, run_on, run_listed, run_more, run_over}
+use Rattle.run.proofs.Finishes.{run_fine, run_on, run_listed, run_more, run_over}
 use Rattle.run.proofs.Runs.{run_begun, done}
 use Rattle.run.proofs.Rows.{entry_next, entry_room, entries_fit, first_entry}
 use Rattle.run.proofs.tokens.tokens.Goals as goal

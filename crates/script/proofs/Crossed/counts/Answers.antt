@@ -1,6 +1,5 @@
 -- Each case by its law.
 use mathlib.Core.Path.{sym}
-use borrow.Author.Rules.{rules}
 use Rattle.script.proofs.Counts.{plain_counts, piece_counts, none_counts, left_counts, map_counts, other_counts}
 use Rattle.script.proofs.Crossed.counts.Goals as goal
 

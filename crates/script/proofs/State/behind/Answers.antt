@@ -1,6 +1,5 @@
 -- Each case by its law.
 use mathlib.Core.Path.{sym, ◌∙◌}
-use borrow.Author.Rules.{rules}
 use Rattle.script.proofs.Moves.{behind_left, behind_map, behind_right, behind_other, passed_plain, passed_piece, passed_token, room_for}
 use Rattle.script.proofs.State.behind.Goals as goal
 

@@ -1,5 +1,4 @@
 -- The second test is asked only where the first holds.
-use borrow.Author.Rules.{rules}
 use mathlib.Core.Path.{sym, ◌∙◌}
 use Rattle.span.specs.Spans.{is_no_span}
 use Rattle.span.proofs.Span.is_none.Goals as goal

@@ -1,6 +1,5 @@
 -- Each arm is the row of what its case tells.
 use native.Mathlib.Omega.{arith}
-use borrow.Author.Rules.{rules}
 use Rattle.reading.specs.Told.{ending_number, ending_place, ending_part}
 use Rattle.stew.specs.RunAnswer.{tells_of}
 use Rattle.stew.proofs.runs.row_of.Goals as goal

@@ -1,5 +1,4 @@
 -- The door's number, or 9.
-use borrow.Author.Rules.{rules}
 use Rattle.stew.proofs.runs.Ways.{no_fault, own_fault}
 use Rattle.stew.proofs.runs.short_number.Goals as goal
 

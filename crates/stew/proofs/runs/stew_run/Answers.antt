@@ -1,6 +1,5 @@
 -- Too short an answer leaves all as it was; else the run's answer is its row.
 use native.Mathlib.Omega.{arith}
-use borrow.Author.Rules.{rules}
 use Rattle.stew.proofs.runs.Ways.{too_short, long_enough}
 use Rattle.stew.proofs.runs.stew_run.Goals as goal
 

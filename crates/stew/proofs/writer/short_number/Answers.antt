@@ -1,5 +1,4 @@
 -- The body's own number, or 9.
-use borrow.Author.Rules.{rules}
 use Rattle.stew.proofs.writer.Ways.{no_fault, own_fault}
 use Rattle.stew.proofs.writer.short_number.Goals as goal
 

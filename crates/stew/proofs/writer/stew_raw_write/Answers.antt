@@ -1,6 +1,5 @@
 -- Too short an answer leaves all as it was; else the literal is written, and its length.
 use mathlib.Core.Path.{sym, ap}
-use borrow.Author.Rules.{rules}
 use Rattle.lent.specs.Written.{written_number}
 use Rattle.stew.specs.WriteAnswer.{written_length}
 use Rattle.stew.proofs.writer.Ways.{short_returned, short_out, short_answer, left_out, number_returned, length_answered}

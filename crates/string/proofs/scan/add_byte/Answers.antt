@@ -1,8 +1,7 @@
 -- Nothing, or the byte that was passed, by its law: proofs/Leading.antt.
-use Prim.Native.Nat.{◌-◌, ◌≤◌}
+use Prim.Native.Nat.{◌≤◌}
 use native.Mathlib.Omega.{arith}
 use mathlib.Core.Path.{◌≡◌}
-use borrow.Author.Rules.{rules}
 use Rattle.position.specs.Place.{start}
 use Rattle.string_turn.proofs.take.Passing.{passes_low, passes_within}
 use Rattle.string.proofs.scan.Leading.{stays, passes_on}

@@ -1,5 +1,5 @@
 -- Nothing, or what was passed, by its law: proofs/Leading.antt.
-use Prim.Native.Nat.{◌-◌, ◌≤◌}
+use Prim.Native.Nat.{◌≤◌}
 use native.Mathlib.Omega.{arith}
 use mathlib.Core.Path.{◌≡◌}
 use Rattle.position.specs.Place.{start}

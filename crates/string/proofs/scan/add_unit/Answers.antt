@@ -1,8 +1,7 @@
 -- Nothing, or a unit, by its law, and perhaps bytes behind it: proofs/Leading.antt.
-use Prim.Native.Nat.{◌+◌, ◌-◌}
+use Prim.Native.Nat.{◌+◌}
 use native.Mathlib.Omega.{arith}
 use mathlib.Core.Path.{sym, ◌∙◌}
-use borrow.Author.Rules.{rules}
 use Rattle.string.specs.Limited.{GoesOn}
 use Rattle.string.specs.Standing.{ScanLeads}
 use Rattle.string.specs.Units.{clear_state, stand_of, unit_behind}

@@ -1,8 +1,7 @@
 -- One thing leads on behind the other: proofs/Leading.antt.
-use Prim.Native.Nat.{ℕ, ◌-◌, ◌<◌}
+use Prim.Native.Nat.{ℕ, ◌<◌}
 use native.Mathlib.Omega.{arith}
 use mathlib.Core.List.{List}
-use lib.ListN.{length}
 use Rattle.string.specs.Standing.{ScanLeads}
 use Rattle.string.specs.Units.{stand_of}
 use Rattle.string.specs.declared.scan.Clear.{Clear}

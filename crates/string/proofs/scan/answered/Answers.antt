@@ -1,5 +1,4 @@
 -- Each return is a law of proofs/Turning.antt on how a scan is over.
-use borrow.Author.Rules.{rules}
 use Rattle.string.proofs.scan.Turning.{over_limit, accepted, refuses}
 use Rattle.string.proofs.scan.answered.Goals as goal
 

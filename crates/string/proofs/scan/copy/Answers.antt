@@ -1,5 +1,4 @@
 -- A part that is empty, or the copy of one.
-use borrow.Author.Rules.{rules}
 use Rattle.string.proofs.scan.Copying.{stored_nothing}
 use Rattle.string.proofs.scan.copy.Goals as goal
 

@@ -1,7 +1,6 @@
 -- Nothing, or one turn: proofs/Units.antt.
 use native.Mathlib.Omega.{arith}
 use mathlib.Core.Path.{refl, sym, ◌∙◌}
-use borrow.Author.Rules.{rules}
 use Rattle.string.proofs.scan.Units.{terminates, ascii_at, doubled_reads}
 use Rattle.string.proofs.scan.doubled.Goals as goal
 

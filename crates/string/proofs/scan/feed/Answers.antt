@@ -1,7 +1,6 @@
 -- Nothing, or two turns: proofs/Units.antt.
 use native.Mathlib.Omega.{arith}
 use mathlib.Core.Path.{refl}
-use borrow.Author.Rules.{rules}
 use Rattle.string.proofs.scan.Units.{ascii_at, feed_reads}
 use Rattle.string.proofs.scan.feed.Goals as goal
 

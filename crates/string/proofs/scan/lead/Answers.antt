@@ -1,5 +1,4 @@
 -- Nothing, or what is read ahead where no escape is pending: proofs/Leading.antt.
-use borrow.Author.Rules.{rules}
 use Rattle.string.proofs.scan.Leading.{stays, cleared_leads}
 use Rattle.string.proofs.scan.lead.Goals as goal
 

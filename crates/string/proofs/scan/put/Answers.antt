@@ -1,5 +1,4 @@
 -- A byte, where it has room, or what the encoder writes: proofs/Sizes.antt.
-use borrow.Author.Rules.{rules}
 use Rattle.string.proofs.scan.Sizes.{put_low, put_nowhere}
 use Rattle.string.proofs.scan.put.Goals as goal
 

@@ -1,10 +1,8 @@
 -- The invariant is that what is left, with the bytes so far, is answered as the whole (proofs/Measuring.antt), and that the bytes left, stored from here on, make what the whole body makes (proofs/Writing.antt). Reading ahead keeps both.
-use Prim.Native.Nat.{ℕ, ◌-◌}
+use Prim.Native.Nat.{ℕ}
 use native.Mathlib.Omega.{arith}
 use mathlib.Core.List.{List}
 use mathlib.Core.Path.{refl}
-use lib.ListN.{length}
-use borrow.Author.Rules.{rules}
 use Rattle.string.specs.Standing.{Measured, WrittenSoFar}
 use Rattle.string.specs.declared.scan.ScanStand.{ScanStand}
 use Rattle.string.proofs.scan.Measuring.{measured_start, measured_over, measured_full, measured_less, measured_more}

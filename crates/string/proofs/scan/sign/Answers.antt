@@ -1,7 +1,6 @@
 -- Nothing, or one turn: proofs/Units.antt.
 use native.Mathlib.Omega.{arith}
 use mathlib.Core.Path.{refl}
-use borrow.Author.Rules.{rules}
 use Rattle.string.proofs.scan.Units.{ascii_at, sign_reads}
 use Rattle.string.proofs.scan.sign.Goals as goal
 

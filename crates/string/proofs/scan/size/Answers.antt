@@ -1,5 +1,4 @@
 -- The rows of the encoder: laws of proofs/Sizes.antt.
-use borrow.Author.Rules.{rules}
 use Rattle.string.proofs.scan.Sizes.{size0, size1, size2, size3, size4}
 use Rattle.string.proofs.scan.size.Goals as goal
 

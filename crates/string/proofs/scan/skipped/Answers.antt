@@ -1,6 +1,5 @@
 -- Nothing, or one turn: proofs/Units.antt.
 use mathlib.Core.Path.{refl}
-use borrow.Author.Rules.{rules}
 use Rattle.string.proofs.scan.Units.{skipped_reads}
 use Rattle.string.proofs.scan.skipped.Goals as goal
 

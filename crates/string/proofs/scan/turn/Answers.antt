@@ -1,5 +1,4 @@
 -- Each return is a law of proofs/Turning.antt on a turn under a limit.
-use borrow.Author.Rules.{rules}
 use Rattle.string.proofs.scan.Turning.{turn_long, turn_over, turn_stops, turn_on}
 use Rattle.string.proofs.scan.turn.Goals as goal
 

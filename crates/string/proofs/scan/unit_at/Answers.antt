@@ -1,7 +1,6 @@
 -- Nothing, or what each of them reads.
 use native.Mathlib.Omega.{arith}
 use mathlib.Core.Path.{refl}
-use borrow.Author.Rules.{rules}
 use Rattle.string.proofs.scan.Units.{terminates, ascii_at}
 use Rattle.string.proofs.scan.unit_at.Goals as goal
 

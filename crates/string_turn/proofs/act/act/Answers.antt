@@ -1,5 +1,4 @@
 -- A terminator closes, or the match follows: two laws of proofs/Acts.antt.
-use borrow.Author.Rules.{rules}
 use Rattle.string_turn.proofs.act.Acts.{closes, goes_into}
 use Rattle.string_turn.proofs.act.act.Goals as goal
 

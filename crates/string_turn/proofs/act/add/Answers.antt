@@ -1,5 +1,4 @@
 -- Each return is a law of proofs/Acts.antt on white space.
-use borrow.Author.Rules.{rules}
 use Rattle.string_turn.proofs.act.Acts.{white_skipped, white_kept, adds_plain}
 use Rattle.string_turn.proofs.act.add.Goals as goal
 

@@ -1,5 +1,4 @@
 -- The refusal that was made, at the place rewound.
-use borrow.Author.Rules.{rules}
 use Rattle.string_turn.proofs.act.broken.Goals as goal
 
 pub returns : goal.returns

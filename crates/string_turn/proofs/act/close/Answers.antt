@@ -1,5 +1,4 @@
 -- Each return is a law of proofs/Acts.antt on the terminator.
-use borrow.Author.Rules.{rules}
 use Rattle.string_turn.proofs.act.Acts.{terminator_last, terminator_doubled, terminator_alone, terminator_escaped, no_terminator}
 use Rattle.string_turn.proofs.act.close.Goals as goal
 

@@ -1,6 +1,5 @@
 -- What the call answers is the definition, and a column is at most 65,535.
 use native.Mathlib.Omega.{arith}
-use borrow.Author.Rules.{rules}
 use Rattle.string_turn.proofs.act.column.Goals as goal
 
 pub returns : goal.returns

@@ -1,5 +1,4 @@
 -- Each return is a law of proofs/Acts.antt on what an escape stands for.
-use borrow.Author.Rules.{rules}
 use Rattle.string_turn.proofs.act.Acts.{escape_terminator, escape_char, escape_malformed, escape_unknown}
 use Rattle.string_turn.proofs.act.escaped.Goals as goal
 

@@ -1,5 +1,4 @@
 -- Each return is a law of proofs/Acts.antt on a line feed; a column is small, so that one more fits.
-use borrow.Author.Rules.{rules}
 use Rattle.string_turn.proofs.act.Acts.{line_feed_kept, line_feed_bare, line_continues, line_feed_other}
 use Rattle.string_turn.proofs.act.line_feed.Goals as goal
 

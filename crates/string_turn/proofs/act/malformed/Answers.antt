@@ -1,5 +1,4 @@
 -- The refusal is the one that the definition names, with the part between the two offsets.
-use borrow.Author.Rules.{rules}
 use Rattle.string_turn.specs.Endings.{malformed_at}
 use Rattle.string_turn.proofs.act.malformed.Goals as goal
 

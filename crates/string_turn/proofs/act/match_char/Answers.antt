@@ -1,5 +1,4 @@
 -- Each return is a law of proofs/Acts.antt on the match.
-use borrow.Author.Rules.{rules}
 use Rattle.string_turn.proofs.act.Acts.{return_vanishes, return_kept, matches_line_feed, matches_other}
 use Rattle.string_turn.proofs.act.match_char.Goals as goal
 

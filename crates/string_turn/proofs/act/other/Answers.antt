@@ -1,5 +1,4 @@
 -- By what is pending, as the definition.
-use borrow.Author.Rules.{rules}
 use Rattle.string_turn.proofs.act.Acts.{nothing_pending, escape_pending}
 use Rattle.string_turn.proofs.act.other.Goals as goal
 

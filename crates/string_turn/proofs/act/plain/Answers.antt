@@ -1,5 +1,4 @@
 -- Each return is a law of proofs/Acts.antt on a character with no escape pending.
-use borrow.Author.Rules.{rules}
 use Rattle.string_turn.proofs.act.Acts.{plain_in_text, escape_begins, no_backslash}
 use Rattle.string_turn.proofs.act.plain.Goals as goal
 

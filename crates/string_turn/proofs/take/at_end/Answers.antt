@@ -1,5 +1,4 @@
 -- Each return is a law of proofs/Takes.antt on the end of input.
-use borrow.Author.Rules.{rules}
 use Rattle.string_turn.proofs.take.Takes.{text_open, ordinary_cut, ordinary_open, other_cut}
 use Rattle.string_turn.proofs.take.at_end.Goals as goal
 

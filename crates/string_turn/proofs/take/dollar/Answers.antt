@@ -1,5 +1,4 @@
 -- Each return is a law of proofs/Takes.antt on `$` and the backslash.
-use borrow.Author.Rules.{rules}
 use Rattle.string_turn.proofs.take.Takes.{dollar_ends, dollar_alone, backslash_last, backslash_dollar, backslash_alone, backslash_other, no_dollar}
 use Rattle.string_turn.proofs.take.dollar.Goals as goal
 

@@ -1,5 +1,4 @@
 -- A character of the four, and what follows it: proofs/Passing.antt.
-use borrow.Author.Rules.{rules}
 use mathlib.Core.Path.{refl}
 use Rattle.basis.proofs.Cases.{not_both}
 use Rattle.string_turn.specs.Passing.{feed}

@@ -1,6 +1,5 @@
 -- What the look found decides, as in the definition.
 use mathlib.Core.Path.{sym, ◌∙◌}
-use borrow.Author.Rules.{rules}
 use Rattle.string_turn.specs.Take.{next_is}
 use Rattle.string_turn.proofs.take.next_is.Goals as goal
 

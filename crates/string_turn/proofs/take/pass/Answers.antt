@@ -1,7 +1,6 @@
 -- Nothing is passed, or a stretch, and in text what follows it: proofs/Passing.antt.
-use Prim.Native.Nat.{◌-◌, ◌≤◌}
+use Prim.Native.Nat.{◌≤◌}
 use native.Mathlib.Omega.{arith}
-use borrow.Author.Rules.{rules}
 use Rattle.string_turn.specs.Passing.{none}
 use Rattle.string_turn.proofs.take.Passing.{passes_low, in_text}
 use Rattle.string_turn.proofs.take.pass.Goals as goal

@@ -1,6 +1,5 @@
 -- Nothing is passed, or a stretch of one byte: proofs/Passing.antt.
 use native.Mathlib.Omega.{arith}
-use borrow.Author.Rules.{rules}
 use Rattle.string_turn.specs.Passing.{none}
 use Rattle.string_turn.proofs.take.Passing.{byte_passed}
 use Rattle.string_turn.proofs.take.pass_byte.Goals as goal

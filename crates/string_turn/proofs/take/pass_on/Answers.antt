@@ -1,10 +1,8 @@
 -- What was passed so far, and so many bytes are left: proofs/Passing.antt.
 use Prim.Native.Nat.{◌+◌, ◌-◌, ◌≤◌}
 use native.Mathlib.Omega.{arith}
-use mathlib.Core.Path.{◌≡◌, refl}
-use borrow.Author.Rules.{rules}
-use Rattle.classes.specs.Marks.{backtick}
-use Rattle.string_turn.specs.Passing.{StringPasses, none, then}
+use mathlib.Core.Path.{refl}
+use Rattle.string_turn.specs.Passing.{none, then}
 use Rattle.string_turn.proofs.take.Passing.{passes_low}
 use Rattle.string_turn.proofs.take.pass_on.Goals as goal
 use Rattle.string_turn.proofs.take.pass_on.Goals.{After-pass_added-one, After-stretch-next}

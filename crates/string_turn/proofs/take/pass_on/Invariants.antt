@@ -1,5 +1,5 @@
 -- What was passed so far, and so many bytes are left: proofs/Passing.antt.
-use Prim.Native.Nat.{◌+◌, ◌-◌}
+use Prim.Native.Nat.{◌+◌}
 use mathlib.Core.Path.{◌≡◌}
 use Rattle.classes.specs.Marks.{backtick}
 use Rattle.string_turn.specs.Passing.{StringPasses}

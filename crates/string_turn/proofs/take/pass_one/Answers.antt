@@ -1,6 +1,5 @@
 -- Nothing is passed, or one character: proofs/Passing.antt.
 use native.Mathlib.Omega.{arith}
-use borrow.Author.Rules.{rules}
 use Rattle.string_turn.specs.Passing.{none}
 use Rattle.string_turn.proofs.take.Passing.{one_passed}
 use Rattle.string_turn.proofs.take.pass_one.Goals as goal

@@ -1,5 +1,4 @@
 -- The test of the definition.
-use borrow.Author.Rules.{rules}
 use borrow.Author.Tests.{eq-eqb, ne_eqb}
 use Rattle.string_turn.specs.Passing.{place_behind}
 use Rattle.string_turn.proofs.take.place_behind.Goals as goal

@@ -1,6 +1,5 @@
 -- Nothing is passed, or what was passed is a stretch: proofs/Passing.antt.
 use native.Mathlib.Omega.{arith}
-use borrow.Author.Rules.{rules}
 use Rattle.string_turn.specs.Passing.{none}
 use Rattle.string_turn.proofs.take.Passing.{passed}
 use Rattle.string_turn.proofs.take.stretch.Goals as goal

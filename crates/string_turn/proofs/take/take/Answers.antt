@@ -1,5 +1,4 @@
 -- Each return is a law of proofs/Takes.antt on the character taken.
-use borrow.Author.Rules.{rules}
 use Rattle.string_turn.proofs.take.Takes.{takes_none, takes_dollar, takes_escaped, takes_plain}
 use Rattle.string_turn.proofs.take.take.Goals as goal
 

@@ -1,5 +1,4 @@
 -- The refusal is the one that the definition names, with the fault that was made.
-use borrow.Author.Rules.{rules}
 use Rattle.string_turn.specs.Endings.{unterminated_at}
 use Rattle.string_turn.proofs.take.unterminated.Goals as goal
 

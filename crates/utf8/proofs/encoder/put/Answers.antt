@@ -5,7 +5,6 @@ use mathlib.Core.Bool.{true}
 use mathlib.Core.List.{List}
 use mathlib.Core.Path.{◌≡◌, sym, ◌∙◌}
 use lib.ListN.{length}
-use borrow.Author.Rules.{rules}
 use Rattle.utf8.specs.Encode.{is_scalar, encode}
 use Rattle.utf8.proofs.Encodes.{scalar_small}
 use Rattle.utf8.proofs.encoder.Puts.{put_whole, put_none, put_other}

@@ -4,7 +4,6 @@ use native.Mathlib.Omega.{arith}
 use native.Mathlib.Numerals.{towards_suc}
 use lib.ListN.{length, length-set}
 use Rattle.utf8.proofs.Encodes.{enc1, enc2, enc3, enc4}
-use borrow.Author.Rules.{rules}
 use Rattle.utf8.proofs.encoder.write.Goals as goal
 use Rattle.utf8.proofs.encoder.write.Goals.{Else-c-lt65536, Then-c-lt128, Then-c-lt2048, Then-c-lt65536}
 

@@ -1,6 +1,5 @@
 -- Behind the block that was found, or behind the one byte that is known.
 use native.Mathlib.Omega.{arith}
-use borrow.Author.Rules.{rules}
 use Rattle.utf8.proofs.formed.Blocks.{one_ascii}
 use Rattle.utf8.proofs.formed.behind_ascii.Goals as goal
 

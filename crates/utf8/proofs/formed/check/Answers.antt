@@ -1,11 +1,10 @@
 -- The loop goes from character to character, past ASCII by blocks: the text is well formed exactly if it is so from the offset reached on.
-use Prim.Native.Nat.{ℕ, ◌+◌, ◌≤◌, ◌-◌}
+use Prim.Native.Nat.{ℕ, ◌+◌, ◌≤◌}
 use native.Mathlib.Omega.{arith}
 use mathlib.Core.List.{List}
 use mathlib.Core.Path.{◌≡◌, sym, ◌∙◌}
-use lib.ListN.{length, drop}
-use borrow.Author.Rules.{rules}
-use Rattle.utf8.specs.Table.{well, look_at}
+use lib.ListN.{length}
+use Rattle.utf8.specs.Table.{look_at}
 use Rattle.utf8.specs.declared.Look.TheVariants.{Char}
 use Rattle.utf8.proofs.Laws.{well_char, well_end, well_done, at_width}
 use Rattle.utf8.proofs.Widths.{wide_char, wide_none}

@@ -1,12 +1,7 @@
 -- As long as no byte above 7F was met, all so far are ASCII.
-use Prim.Native.Nat.{◌+◌, ◌-◌, ◌≤◌}
 use native.Mathlib.Omega.{arith}
-use mathlib.Core.Bool.{true}
 use mathlib.Core.Path.{◌≡◌, refl, sym}
-use lib.ListN.{length}
-use borrow.Author.Rules.{rules}
 use Rattle.basis.proofs.Cases.{not_both}
-use Rattle.utf8.specs.Blocks.{Ascii}
 use Rattle.utf8.proofs.formed.Blocks.{no_ascii, more_ascii}
 use Rattle.utf8.proofs.formed.is_ascii.Goals as goal
 

@@ -1,7 +1,6 @@
 -- A byte that is not 80..BF is below that range or above it, and past the last byte only the length is a boundary.
 use native.Mathlib.Omega.{arith}
 use mathlib.Core.Path.{sym}
-use borrow.Author.Rules.{rules}
 use Rattle.utf8.proofs.Edges.{boundary_low, boundary_high, boundary_past}
 use Rattle.utf8.proofs.formed.is_boundary.Goals as goal
 

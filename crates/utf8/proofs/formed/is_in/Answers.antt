@@ -5,7 +5,6 @@ use mathlib.Core.List.{List, [], ◌∷◌}
 use mathlib.Core.Path.{◌≡◌, refl, sym}
 use lib.Dec.{leb}
 use lib.ListN.{length, drop, get_or}
-use borrow.Author.Rules.{rules}
 use borrow.Author.Tests.{le-leb, lt-leb}
 use Rattle.basis.specs.Pick.{both}
 use Rattle.basis.proofs.Bytes.{here, past}

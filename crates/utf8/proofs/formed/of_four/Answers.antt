@@ -1,7 +1,6 @@
 -- Each row by its law; behind the last row there is none.
 use native.Mathlib.Omega.{arith}
 use mathlib.Core.Path.{sym, ◌∙◌}
-use borrow.Author.Rules.{rules}
 use Rattle.utf8.proofs.Widths.{row_four_low, row_four, row_four_high, row_beyond}
 use Rattle.utf8.proofs.formed.of_four.Goals as goal
 

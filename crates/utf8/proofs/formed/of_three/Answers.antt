@@ -1,7 +1,6 @@
 -- Each row by its law.
 use native.Mathlib.Omega.{arith}
 use mathlib.Core.Path.{sym, ◌∙◌}
-use borrow.Author.Rules.{rules}
 use Rattle.utf8.proofs.Widths.{row_three_low, row_three, row_three_high, row_three_last}
 use Rattle.utf8.proofs.formed.of_three.Goals as goal
 

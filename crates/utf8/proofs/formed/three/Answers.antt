@@ -1,6 +1,5 @@
 -- The bytes of the row, one by one.
 use mathlib.Core.Path.{sym, ◌∙◌}
-use borrow.Author.Rules.{rules}
 use Rattle.utf8.proofs.Widths.{fits_on, fits_not}
 use Rattle.utf8.proofs.formed.three.Goals as goal
 

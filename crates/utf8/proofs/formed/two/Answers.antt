@@ -1,6 +1,5 @@
 -- The second byte tells.
 use mathlib.Core.Path.{sym, ◌∙◌}
-use borrow.Author.Rules.{rules}
 use Rattle.utf8.proofs.formed.two.Goals as goal
 
 pub returns-then-is_in : goal.returns-then-is_in

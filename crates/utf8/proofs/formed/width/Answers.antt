@@ -1,7 +1,6 @@
 -- The first byte tells how many further ones there are.
 use native.Mathlib.Omega.{arith}
 use mathlib.Core.Path.{sym, ◌∙◌}
-use borrow.Author.Rules.{rules}
 use Rattle.utf8.proofs.Widths.{row_none, row_two}
 use Rattle.utf8.proofs.formed.width.Goals as goal
 

@@ -1,6 +1,5 @@
 -- What `get_next` takes at the place one column on.
 use mathlib.Core.Path.{◌∙◌}
-use borrow.Author.Rules.{rules}
 use Rattle.chars.proofs.Cursors.{ate_got}
 use Rattle.chars.proofs.cursor.Cursor.eat_next_and_advance.Goals as goal
 

@@ -1,6 +1,5 @@
 -- Each case by the definition.
 use mathlib.Core.Path.{sym, ap}
-use borrow.Author.Rules.{rules}
 use Rattle.position.specs.Place.{none}
 use Rattle.identifier.specs.Told.{identified_fault}
 use Rattle.identifier.proofs.scan.Identified.fault.Goals as goal

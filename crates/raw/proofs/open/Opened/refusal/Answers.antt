@@ -1,6 +1,5 @@
 -- Each case by the definition.
 use mathlib.Core.Path.{sym, ap}
-use borrow.Author.Rules.{rules}
 use Rattle.position.specs.Place.{none}
 use Rattle.raw.specs.Opening.{refusal_of}
 use Rattle.raw.proofs.open.Opened.refusal.Goals as goal

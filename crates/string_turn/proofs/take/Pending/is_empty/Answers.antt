@@ -1,5 +1,4 @@
 -- By the variant, as the definition.
-use borrow.Author.Rules.{rules}
 use Rattle.string_turn.specs.Take.{is_empty}
 use Rattle.string_turn.proofs.take.Pending.is_empty.Goals as goal
 
