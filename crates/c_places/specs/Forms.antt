@@ -6,7 +6,6 @@ use Rattle.position.specs.Place.{given}
 use Rattle.position.specs.declared.Position.{Position}
 use Rattle.span.specs.Spans.{new_span}
 use Rattle.display.specs.declared.Shown.{Shown}
-use Rattle.display.specs.declared.Shown.TheVariants as Shown
 use Rattle.display.specs.Forms.{shown_of}
 
 -- 0: Display of the first place; 1: Debug of it; any other: Display of the span between the two

@@ -1,6 +1,5 @@
 -- By the branches that were taken.
 use mathlib.Core.Path.{sym, ◌∙◌}
-use borrow.Author.Rules.{rules}
 use Rattle.listed.proofs.Lines.{bytes_below, bytes_above, bytes_packed}
 use Rattle.listed.proofs.bytes_of.Goals as goal
 

@@ -1,6 +1,5 @@
 -- By the branch that was taken.
 use borrow.Author.Tests.{lt-ltb, le-ltb}
-use borrow.Author.Rules.{rules}
 use Rattle.listed.specs.Listing.{hex_digit}
 use Rattle.listed.proofs.digit.Goals as goal
 

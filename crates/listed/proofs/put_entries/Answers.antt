@@ -1,11 +1,7 @@
 -- The lines that are left go where all were to go.
-use Prim.Native.Nat.{◌-◌, ◌*◌, ◌≤◌}
-use mathlib.Core.Path.{◌≡◌, refl, sym, ◌∙◌}
+use mathlib.Core.Path.{refl, sym, ◌∙◌}
 use native.Mathlib.Nat.{sub-zero}
-use lib.ListN.{length, drop}
 use borrow.Author.Rules.{rules}
-use Rattle.listed.specs.Texts.{writing, puts}
-use Rattle.listed.specs.Listing.{entries_lines}
 use Rattle.listed.proofs.Puts.{puts_none}
 use Rattle.listed.proofs.Lines.{lines_next, lines_past}
 use Rattle.listed.proofs.put_entries.Goals as goal

@@ -1,5 +1,4 @@
 -- The line of what the five numbers give.
-use borrow.Author.Rules.{rules}
 use Rattle.listed.proofs.Lines.{entry_put}
 use Rattle.listed.proofs.put_entry.Goals as goal
 

@@ -1,11 +1,8 @@
 -- What is still to be put goes where the whole was to go.
-use Prim.Native.Nat.{◌-◌, ◌≤◌}
-use mathlib.Core.Path.{◌≡◌, refl, sym, ◌∙◌}
-use lib.ListN.{length, drop}
+use mathlib.Core.Path.{refl, sym, ◌∙◌}
 use borrow.Author.Rules.{rules}
 use Rattle.basis.specs.Words.{word}
-use Rattle.listed.specs.Texts.{writing, puts}
-use Rattle.listed.specs.Listing.{hexes}
+use Rattle.listed.specs.Texts.{puts}
 use Rattle.listed.proofs.Puts.{puts_none, puts_first}
 use Rattle.listed.proofs.Lines.{hex_none, hex_some, hexes_here, hexes_past}
 use Rattle.listed.proofs.put_hex.Goals as goal

@@ -1,5 +1,4 @@
 -- The copy of the two digits tells it.
-use borrow.Author.Rules.{rules}
 use Rattle.listed.specs.Listing.{hex_byte}
 use Rattle.listed.proofs.Puts.{put_told}
 use Rattle.listed.proofs.put_hex_byte.Goals as goal

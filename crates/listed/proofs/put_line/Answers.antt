@@ -1,5 +1,4 @@
 -- The pieces, one behind the other.
-use borrow.Author.Rules.{rules}
 use Rattle.basis.specs.Words.{word}
 use Rattle.listed.proofs.Puts.{and_put, and_puts}
 use Rattle.listed.proofs.Lines.{line_put}

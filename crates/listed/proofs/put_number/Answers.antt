@@ -1,7 +1,6 @@
 -- By the number of its digits.
 use mathlib.Core.Path.{sym}
 use native.Mathlib.Omega.{arith}
-use borrow.Author.Rules.{rules}
 use Rattle.listed.proofs.Lines.{number_one, number_two, number_three}
 use Rattle.listed.proofs.put_number.Goals as goal
 

@@ -1,5 +1,4 @@
 -- The copy tells it.
-use borrow.Author.Rules.{rules}
 use Rattle.listed.proofs.Puts.{put_told}
 use Rattle.listed.proofs.put_word.Goals as goal
 

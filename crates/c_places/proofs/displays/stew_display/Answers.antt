@@ -1,5 +1,4 @@
 -- The words of the places given are written, and what that answers is told as a number.
-use borrow.Author.Rules.{rules}
 use Rattle.c_places.specs.Forms.{words_of}
 use Rattle.c_places.proofs.displays.stew_display.Goals as goal
 

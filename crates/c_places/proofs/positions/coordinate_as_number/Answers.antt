@@ -1,5 +1,4 @@
 -- Each arm is the definition at its case.
-use borrow.Author.Rules.{rules}
 use Rattle.c_places.specs.PlaceNumbers.{coordinate_as_number}
 use Rattle.c_places.proofs.positions.coordinate_as_number.Goals as goal
 

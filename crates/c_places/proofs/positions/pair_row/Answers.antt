@@ -1,5 +1,4 @@
 -- Each number is what its call answers of the two places, or of the span between them.
-use borrow.Author.Rules.{rules}
 use Rattle.c_places.specs.Rows.{pair_row}
 use Rattle.c_places.proofs.positions.pair_row.Goals as goal
 

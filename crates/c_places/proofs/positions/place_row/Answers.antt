@@ -1,5 +1,4 @@
 -- Each number is what its call answers of the place given.
-use borrow.Author.Rules.{rules}
 use Rattle.c_places.specs.Rows.{place_row}
 use Rattle.c_places.proofs.positions.place_row.Goals as goal
 

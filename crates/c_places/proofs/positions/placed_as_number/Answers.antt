@@ -1,6 +1,5 @@
 -- Each arm is the number of its case.
 use mathlib.Core.Path.{◌∙◌}
-use borrow.Author.Rules.{rules}
 use Rattle.c_answer.specs.Packed.{refusal_as_number}
 use Rattle.c_places.proofs.positions.Cases.{at_number, refused_number}
 use Rattle.c_places.proofs.positions.placed_as_number.Goals as goal

@@ -1,6 +1,5 @@
 -- Each arm is the row of what its case tells; a place that a case does not have is NONE, which is 0.
 use native.Mathlib.Omega.{arith}
-use borrow.Author.Rules.{rules}
 use Rattle.token_ends.specs.Told.{told}
 use Rattle.c_answer.proofs.Examples.{worked}
 use Rattle.c_places.proofs.positions.recorded_row.Goals as goal

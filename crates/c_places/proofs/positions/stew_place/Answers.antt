@@ -1,5 +1,4 @@
 -- Too short a memory is left; else the row is written to its front.
-use borrow.Author.Rules.{rules}
 use Rattle.numbers.proofs.Answers.{short-fitted, short_leaves, long-fitted}
 use Rattle.c_places.proofs.positions.Rows.{place_long}
 use Rattle.c_places.proofs.positions.stew_place.Goals as goal

@@ -1,6 +1,5 @@
 -- Too short a memory is left; else the row of what is recorded is written to its front.
 use mathlib.Core.Path.{◌∙◌}
-use borrow.Author.Rules.{rules}
 use Rattle.numbers.proofs.Answers.{short_leaves}
 use Rattle.c_answer.proofs.Short.{short_told, long_told}
 use Rattle.c_places.proofs.positions.Rows.{record_long, record_is}

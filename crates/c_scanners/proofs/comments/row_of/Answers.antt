@@ -1,6 +1,5 @@
 -- Each arm is the row of what its case tells.
 use native.Mathlib.Omega.{arith}
-use borrow.Author.Rules.{rules}
 use Rattle.comment.specs.Block.{told}
 use Rattle.c_scanners.proofs.comments.row_of.Goals as goal
 

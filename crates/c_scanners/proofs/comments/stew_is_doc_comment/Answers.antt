@@ -1,5 +1,4 @@
 -- It is what the call answers.
-use borrow.Author.Rules.{rules}
 use Rattle.c_scanners.proofs.comments.stew_is_doc_comment.Goals as goal
 
 pub returns : goal.returns

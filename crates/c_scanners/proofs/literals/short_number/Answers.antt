@@ -1,6 +1,5 @@
 -- The number of the fault that is told, as it is where the row has no room.
 use mathlib.Core.Path.{ap, ◌∙◌}
-use borrow.Author.Rules.{rules}
 use Rattle.fault.specs.declared.Fault.{Fault}
 use Rattle.c_answer.specs.Short.{short_row_number}
 use Rattle.c_scanners.proofs.literals.Rows.{fault_number}

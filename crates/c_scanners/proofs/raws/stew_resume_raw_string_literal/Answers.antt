@@ -1,5 +1,4 @@
 -- Too short a memory for the row leaves both; else the scan is answered by its row.
-use borrow.Author.Rules.{rules}
 use Rattle.c_scanners.proofs.literals.Rows.{too_short, in_full}
 use Rattle.raw.specs.Raw.{as_source}
 use Rattle.raw.specs.Entries.{resume_trace, resume_of}

@@ -1,6 +1,5 @@
 -- Each arm is the row of what its case tells; a place that a case does not have is NONE, which is 0.
 use native.Mathlib.Omega.{arith}
-use borrow.Author.Rules.{rules}
 use Rattle.identifier.specs.Told.{told}
 use Rattle.c_answer.proofs.Examples.{worked}
 use Rattle.c_words.proofs.identifiers.row_of.Goals as goal

@@ -1,5 +1,4 @@
 -- Each number is what its call answers.
-use borrow.Author.Rules.{rules}
 use Rattle.c_words.specs.OperatorRow.{operator_row}
 use Rattle.c_words.proofs.operations.row_of.Goals as goal
 

@@ -1,5 +1,4 @@
 -- Each arm is the definition at its case.
-use borrow.Author.Rules.{rules}
 use Rattle.c_words.specs.TokenNumbers.{lookup_as_number}
 use Rattle.c_words.proofs.words.lookup_as_number.Goals as goal
 

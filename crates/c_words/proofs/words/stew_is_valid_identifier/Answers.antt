@@ -1,5 +1,4 @@
 -- It is what the call answers.
-use borrow.Author.Rules.{rules}
 use Rattle.c_words.proofs.words.stew_is_valid_identifier.Goals as goal
 
 pub returns : goal.returns

@@ -1,5 +1,4 @@
 -- The text is written, and what that answers is told as a number.
-use borrow.Author.Rules.{rules}
 use Rattle.c_words.proofs.words.stew_literal_syntax.Goals as goal
 
 pub returns : goal.returns

@@ -1,5 +1,4 @@
 -- It is the token found, told as a number.
-use borrow.Author.Rules.{rules}
 use mathlib.Core.Path.{ap, ◌∙◌}
 use Rattle.c_words.specs.TokenNumbers.{lookup_as_number}
 use Rattle.c_words.proofs.words.stew_lookup_symbol_from_syntax.Goals as goal
