@@ -157,7 +157,7 @@ fn partner(kind: usize, t: u8) -> Lookup {
 }
 
 // The scan of a comment.
-fn comment(to: &mut Vec<u8>, case: Case, text: &[u8]) -> io::Result<()> {
+fn comment(to: &impl Print, case: Case, text: &[u8]) -> io::Result<()> {
     let c = comment::scan_block_comment(text, case.number(6), case.place(3), case.number(1));
     match c {
         Commented::Done(c) => {
@@ -169,7 +169,7 @@ fn comment(to: &mut Vec<u8>, case: Case, text: &[u8]) -> io::Result<()> {
 }
 
 // The scan of an identifier.
-fn identifier(to: &mut Vec<u8>, case: Case, text: &[u8], book: &[u8]) -> io::Result<()> {
+fn identifier(to: &impl Print, case: Case, text: &[u8], book: &[u8]) -> io::Result<()> {
     let i = identifier::parse_identifier_token(text, case.number(5), case.place(2), book);
     match i {
         Identified::Found(w) => {
@@ -185,7 +185,7 @@ fn identifier(to: &mut Vec<u8>, case: Case, text: &[u8], book: &[u8]) -> io::Res
 }
 
 // Writes what a book says of a word.
-fn reserved(to: &mut Vec<u8>, r: Reserved) -> io::Result<()> {
+fn reserved(to: &impl Print, r: Reserved) -> io::Result<()> {
     show::truth(to, r.found)?;
     show::truth(to, r.a)?;
     show::truth(to, r.ab)
@@ -193,7 +193,7 @@ fn reserved(to: &mut Vec<u8>, r: Reserved) -> io::Result<()> {
 
 // What is asked of lent memory.
 fn of_memory(
-    to: &mut Vec<u8>,
+    to: &impl Print,
     kind: usize,
     case: Case,
     text: &[u8],
@@ -206,7 +206,7 @@ fn of_memory(
 }
 
 // What is asked of numbers alone.
-fn of_numbers(to: &mut Vec<u8>, kind: usize, case: Case) -> io::Result<()> {
+fn of_numbers(to: &impl Print, kind: usize, case: Case) -> io::Result<()> {
     match kind {
         ADVANCE | REWIND | NEWLINE | SUM => {
             show::placed(to, moved(kind, case.place(1), case.place(4)))
@@ -221,13 +221,7 @@ fn of_numbers(to: &mut Vec<u8>, kind: usize, case: Case) -> io::Result<()> {
 }
 
 // What is asked of a text, which for an identifier a book follows.
-fn of_text(
-    to: &mut Vec<u8>,
-    kind: usize,
-    case: Case,
-    before: &[u8],
-    last: &[u8],
-) -> io::Result<()> {
+fn of_text(to: &impl Print, kind: usize, case: Case, before: &[u8], last: &[u8]) -> io::Result<()> {
     match kind {
         COMMENT => comment(to, case, last),
         IDENTIFIER => identifier(to, case, before, last),
@@ -239,7 +233,7 @@ fn of_text(
 
 // What is asked of word books.
 fn of_book<'a>(
-    to: &mut Vec<u8>,
+    to: &impl Print,
     kind: usize,
     first: &'a [u8],
     before: &'a [u8],
@@ -256,7 +250,7 @@ fn of_book<'a>(
 
 // What is asked of a script, which for a run a book follows.
 fn of_script(
-    to: &mut Vec<u8>,
+    to: &impl Print,
     kind: usize,
     case: Case,
     before: &[u8],
@@ -271,7 +265,7 @@ fn of_script(
 
 // The answer to what is asked.
 pub(crate) fn answer(
-    to: &mut Vec<u8>,
+    to: &impl Print,
     kind: usize,
     case: Case,
     texts: &[u8],

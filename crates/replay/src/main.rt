@@ -5,7 +5,6 @@
 #![tactic(auto)]
 
 use line::Case;
-use std::alloc::Global;
 use std::io;
 use std::io::Read;
 
@@ -15,7 +14,7 @@ mod runs;
 mod show;
 
 // Writes what stands behind a line.
-fn finish(to: &mut Vec<u8>, case: Case, texts: &[u8]) -> io::Result<()> {
+fn finish(to: &impl Print, case: Case, texts: &[u8]) -> io::Result<()> {
     let kind = case.name;
     if kind < line::LEAST {
         return Ok(());
@@ -27,7 +26,7 @@ fn finish(to: &mut Vec<u8>, case: Case, texts: &[u8]) -> io::Result<()> {
 }
 
 // Reads a byte of a line, and behind the last one writes the answer.
-fn turn(to: &mut Vec<u8>, b: u8, case: Case, texts: &mut [u8]) -> io::Result<Case> {
+fn turn(to: &impl Print, b: u8, case: Case, texts: &mut [u8]) -> io::Result<Case> {
     let case = line::take(b, case, texts);
     if b != b'\n' {
         return Ok(case);
@@ -36,28 +35,19 @@ fn turn(to: &mut Vec<u8>, b: u8, case: Case, texts: &mut [u8]) -> io::Result<Cas
     Ok(Case::NEW)
 }
 
-// Writes the lines of the input, each case with its answer. A line is gathered in memory, and written when it is whole.
-fn replay(rt: &impl Print, alloc: Global, input: &[u8], texts: &mut [u8]) -> io::Result<()> {
-    let mut text = Vec::new(alloc);
+// Writes the lines of the input, each case with its answer.
+fn replay<R: Read + Drop>(to: &impl Print, input: R, texts: &mut [u8]) -> io::Result<()> {
     let mut case = Case::NEW;
-    let mut at = 0;
-    while at < input.len() {
-        let b = input[at];
-        case = turn(&mut text, b, case, &mut *texts)?;
-        show::byte(&mut text, b)?;
-        if b == b'\n' {
-            rt.write_all(&text)?;
-            text.clear();
-        }
-        at += 1;
+    for b in input.bytes() {
+        let b = b?;
+        case = turn(to, b, case, &mut *texts)?;
+        show::byte(to, b)?;
     }
-    rt.write_all(&text)
+    Ok(())
 }
 
 // The cases stand on standard input, of which 65,536 bytes are read.
 fn main(rt: HostRuntime) -> io::Result<()> {
-    let mut input = Vec::new(rt.alloc());
-    rt.stdin().take(65536).read_to_end(&mut input)?;
     let mut texts = [0u8; 65600];
-    replay(&rt, rt.alloc(), &input, &mut texts)
+    replay(&rt, rt.stdin().take(65536), &mut texts)
 }

@@ -34,7 +34,7 @@ fn entry_room(n: usize, entries: &[u32]) -> usize
 }
 
 // The numbers of the entries, a comma behind each fifth.
-fn entries(to: &mut Vec<u8>, numbers: &[u32], listed: usize) -> io::Result<()> {
+fn entries(to: &impl Print, numbers: &[u32], listed: usize) -> io::Result<()> {
     let mut i = 0;
     while i < numbers.len() {
         if listed <= i / 5 {
@@ -54,7 +54,7 @@ fn wide(n: u32) -> usize {
 }
 
 // How a run ended: a stop with its place and the part of the script that it is about.
-fn ending(to: &mut Vec<u8>, e: Ending) -> io::Result<()> {
+fn ending(to: &impl Print, e: Ending) -> io::Result<()> {
     match e {
         Ending::End(p) => {
             show::word(to, show::END)?;
@@ -97,7 +97,7 @@ fn numbers_kept(numbers: &[u32], listed: usize) -> bool {
 
 // The entries, the ending, the literal bytes, and whether all else that was lent is as it was.
 fn within(
-    to: &mut Vec<u8>,
+    to: &impl Print,
     limit: usize,
     script: &[u8],
     book: &[u8],
@@ -119,7 +119,7 @@ fn within(
 }
 
 // A run in the rooms that its case gives.
-pub(crate) fn run(to: &mut Vec<u8>, case: Case, script: &[u8], book: &[u8]) -> io::Result<()> {
+pub(crate) fn run(to: &impl Print, case: Case, script: &[u8], book: &[u8]) -> io::Result<()> {
     let mut literals = [BYTE; 256];
     let mut numbers = [NUMBER; 500];
     let room = literal_room(case.number(4), &literals);
@@ -135,7 +135,7 @@ pub(crate) fn run(to: &mut Vec<u8>, case: Case, script: &[u8], book: &[u8]) -> i
 }
 
 // A text with `|` for each line feed.
-fn lines(to: &mut Vec<u8>, text: &[u8]) -> io::Result<()> {
+fn lines(to: &impl Print, text: &[u8]) -> io::Result<()> {
     show::byte(to, b' ')?;
     let mut i = 0;
     while i < text.len() {
@@ -185,14 +185,14 @@ fn last_from(text: &[u8]) -> usize {
 }
 
 // The listing of a script.
-pub(crate) fn listing(to: &mut Vec<u8>, script: &[u8]) -> io::Result<()> {
+pub(crate) fn listing(to: &impl Print, script: &[u8]) -> io::Result<()> {
     let mut out = [0u8; 180000];
     let n = listed::list(script, &mut out);
     lines(to, part(&out, 0, n))
 }
 
 // Its last line, and how many lines it has.
-pub(crate) fn last(to: &mut Vec<u8>, script: &[u8]) -> io::Result<()> {
+pub(crate) fn last(to: &impl Print, script: &[u8]) -> io::Result<()> {
     let mut out = [0u8; 180000];
     let n = listed::list(script, &mut out);
     let text = part(&out, 0, n);

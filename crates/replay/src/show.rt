@@ -1,4 +1,4 @@
-// How answers are written: each part with a space before it. They are gathered in memory, behind what stands there already.
+// How answers are written: each part with a space before it.
 use chars::cursor::Cursor;
 use fault::Fault;
 use lent::Written;
@@ -6,7 +6,6 @@ use literal::{Scanned, Terminator};
 use places::coordinates::Placed;
 use position::Position;
 use std::io;
-use std::io::Write;
 use token::Lookup;
 
 // The words of the answers, in 13 bytes each. The kinds of an identifier are the numbers of their words.
@@ -81,19 +80,18 @@ pub const KEPT: u8 = 23;
 pub const LINES: u8 = 24;
 
 // Bytes as they are.
-fn text(to: &mut Vec<u8>, bytes: &[u8]) -> io::Result<()> {
-    to.extend_from_slice(bytes)?;
-    Ok(())
+fn text(to: &impl Print, bytes: &[u8]) -> io::Result<()> {
+    to.write_all(bytes)
 }
 
 // One byte as it is.
-pub(crate) fn byte(to: &mut Vec<u8>, b: u8) -> io::Result<()> {
+pub(crate) fn byte(to: &impl Print, b: u8) -> io::Result<()> {
     let one = [b];
     text(to, &one)
 }
 
 // A word of the list.
-pub(crate) fn word(to: &mut Vec<u8>, n: u8) -> io::Result<()> {
+pub(crate) fn word(to: &impl Print, n: u8) -> io::Result<()> {
     byte(to, b' ')?;
     let words = WORDS;
     let mut at = 13 * n as usize;
@@ -109,24 +107,24 @@ pub(crate) fn word(to: &mut Vec<u8>, n: u8) -> io::Result<()> {
 }
 
 // A number without a space.
-fn decimal(to: &mut Vec<u8>, n: usize) -> io::Result<()> {
-    write!(to, "{n}")
+fn decimal(to: &impl Print, n: usize) -> io::Result<()> {
+    print!(to; "{n}")
 }
 
 // A number.
-pub(crate) fn number(to: &mut Vec<u8>, n: usize) -> io::Result<()> {
+pub(crate) fn number(to: &impl Print, n: usize) -> io::Result<()> {
     byte(to, b' ')?;
     decimal(to, n)
 }
 
 // A number with a word before it.
-pub(crate) fn labelled(to: &mut Vec<u8>, label: u8, n: usize) -> io::Result<()> {
+pub(crate) fn labelled(to: &impl Print, label: u8, n: usize) -> io::Result<()> {
     word(to, label)?;
     number(to, n)
 }
 
 // A truth value.
-pub(crate) fn truth(to: &mut Vec<u8>, b: bool) -> io::Result<()> {
+pub(crate) fn truth(to: &impl Print, b: bool) -> io::Result<()> {
     if b {
         return word(to, TRUE);
     }
@@ -134,12 +132,12 @@ pub(crate) fn truth(to: &mut Vec<u8>, b: bool) -> io::Result<()> {
 }
 
 // Two hex digits.
-fn hex_byte(to: &mut Vec<u8>, b: u8) -> io::Result<()> {
-    write!(to, "{b:02x}")
+fn hex_byte(to: &impl Print, b: u8) -> io::Result<()> {
+    print!(to; "{b:02x}")
 }
 
 // Bytes in hex, `-` for none.
-pub(crate) fn bytes(to: &mut Vec<u8>, b: &[u8]) -> io::Result<()> {
+pub(crate) fn bytes(to: &impl Print, b: &[u8]) -> io::Result<()> {
     if b.len() == 0 {
         return word(to, EMPTY);
     }
@@ -153,20 +151,20 @@ pub(crate) fn bytes(to: &mut Vec<u8>, b: &[u8]) -> io::Result<()> {
 }
 
 // A place as line and column, NONE being 0:0.
-pub(crate) fn place(to: &mut Vec<u8>, p: Position) -> io::Result<()> {
+pub(crate) fn place(to: &impl Print, p: Position) -> io::Result<()> {
     number(to, p.line_number() as usize)?;
     byte(to, b':')?;
     decimal(to, p.column_number() as usize)
 }
 
 // Where a scan stopped.
-pub(crate) fn reached(to: &mut Vec<u8>, c: Cursor) -> io::Result<()> {
+pub(crate) fn reached(to: &impl Print, c: Cursor) -> io::Result<()> {
     labelled(to, ENDS, c.at)?;
     place(to, c.place)
 }
 
 // What is on record: how often which character, `-` for nothing.
-fn record(to: &mut Vec<u8>, t: Terminator) -> io::Result<()> {
+fn record(to: &impl Print, t: Terminator) -> io::Result<()> {
     word(to, RECORD)?;
     if t.times == 0 {
         return word(to, EMPTY);
@@ -179,12 +177,12 @@ fn record(to: &mut Vec<u8>, t: Terminator) -> io::Result<()> {
 }
 
 // A refusal's number.
-fn refused(to: &mut Vec<u8>, n: u8) -> io::Result<()> {
+fn refused(to: &impl Print, n: u8) -> io::Result<()> {
     labelled(to, REFUSED, n as usize)
 }
 
 // A fault: its number, the place reported, and the part of the script, offset and length.
-pub(crate) fn fault(to: &mut Vec<u8>, f: Fault) -> io::Result<()> {
+pub(crate) fn fault(to: &impl Print, f: Fault) -> io::Result<()> {
     refused(to, f.number)?;
     word(to, AT)?;
     place(to, f.place)?;
@@ -193,7 +191,7 @@ pub(crate) fn fault(to: &mut Vec<u8>, f: Fault) -> io::Result<()> {
 }
 
 // A literal's scan, with what was lent to it.
-pub(crate) fn scanned(to: &mut Vec<u8>, s: Scanned, out: &[u8]) -> io::Result<()> {
+pub(crate) fn scanned(to: &impl Print, s: Scanned, out: &[u8]) -> io::Result<()> {
     match s {
         Scanned::Accepted(e, n) => {
             word(to, OK)?;
@@ -216,7 +214,7 @@ pub(crate) fn scanned(to: &mut Vec<u8>, s: Scanned, out: &[u8]) -> io::Result<()
 }
 
 // A place, or why there is none.
-pub(crate) fn placed(to: &mut Vec<u8>, p: Placed) -> io::Result<()> {
+pub(crate) fn placed(to: &impl Print, p: Placed) -> io::Result<()> {
     match p {
         Placed::At(p) => place(to, p),
         Placed::Refused(n) => refused(to, n),
@@ -224,7 +222,7 @@ pub(crate) fn placed(to: &mut Vec<u8>, p: Placed) -> io::Result<()> {
 }
 
 // A text that was written into what was lent.
-pub(crate) fn written(to: &mut Vec<u8>, w: Written, out: &[u8]) -> io::Result<()> {
+pub(crate) fn written(to: &impl Print, w: Written, out: &[u8]) -> io::Result<()> {
     match w {
         Written::Done(n) => {
             byte(to, b' ')?;
@@ -237,7 +235,7 @@ pub(crate) fn written(to: &mut Vec<u8>, w: Written, out: &[u8]) -> io::Result<()
 }
 
 // A token, where there is one.
-pub(crate) fn token(to: &mut Vec<u8>, t: Lookup) -> io::Result<()> {
+pub(crate) fn token(to: &impl Print, t: Lookup) -> io::Result<()> {
     match t {
         Lookup::Some(n) => labelled(to, TOKEN, n as usize),
         Lookup::None => word(to, NONE),
