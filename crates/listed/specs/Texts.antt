@@ -19,7 +19,7 @@ unfoldable pub puts : Writing → List (List ℕ) → Writing
 puts t [] = t
 puts t (xs ∷ xss) = puts (put t xs) xss
 
--- pieces as one text. The theorem `whole-text` says that memory with room for it then has it in front
+-- pieces as one text. The theorem `whole_text` says that memory with room for it then has it in front
 unfoldable pub joined : List (List ℕ) → List ℕ
 joined [] = []
 joined (xs ∷ xss) = xs ++ joined xss

@@ -15,7 +15,7 @@ use Rattle.literal.specs.declared.Refusal.{Refusal}
 use Rattle.literal.specs.declared.Scanned.{Scanned}
 use Rattle.literal.specs.declared.Scanned.TheVariants.{Accepted, Refused}
 
--- of a script of n bytes; what a test of the limit tells is `Fair-trace`
+-- of a script of n bytes; what a test of the limit tells is `FairTrace`
 module _ (n : ℕ) where
   abbrev pub Traced : Trace → Type 0
   Traced (ends e) = Small e.cursor.place

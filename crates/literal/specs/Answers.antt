@@ -26,13 +26,13 @@ abbrev pub refusal : Fault → Cursor → Terminator → Refusal
 refusal f here r = record { fault = f; cursor = here; on_record = r }
 
 -- 1, 2, 3 or 9: all as it was given
-abbrev pub asGiven : ℕ → Cursor → Refusal
-asGiven n start = refusal (fault n start.place) start nothing
+abbrev pub as_given : ℕ → Cursor → Refusal
+as_given n start = refusal (fault n start.place) start nothing
 
 -- 9
 abbrev pub full : Cursor → Refusal
 full start = refusal (no_literal_room start.place) start nothing
 
 -- 7, at the literal's start, with what is on record
-abbrev pub tooLong : Position → Cursor → Terminator → Refusal
-tooLong start here r = refusal (string_too_long start) here r
+abbrev pub too_long : Position → Cursor → Terminator → Refusal
+too_long start here r = refusal (string_too_long start) here r

@@ -4,7 +4,7 @@
 ghost use Rattle.std.specs.Prelude.{false, ◌≡◌, ◌+◌, ◌≤◌, ◌<◌};
 ghost use Rattle.literal.specs.Trace.{passes};
 ghost use Rattle.literal.specs.Told.{scanned_fault};
-ghost use Rattle.literal.specs.Answers.{asGiven, tooLong};
+ghost use Rattle.literal.specs.Answers.{as_given, too_long};
 ghost use Rattle.literal.specs.declared.Scanned.TheVariants.{Refused};
 
 use chars::cursor::Cursor;
@@ -60,7 +60,7 @@ impl Scanned {
 
     // 1, 2, 3 or 9: offset and position are those given, and nothing is on record.
     pub fn as_given(number: u8, start: Cursor) -> Scanned
-        ensures { result ≡ Refused (asGiven number start) }
+        ensures { result ≡ Refused (as_given number start) }
     {
         Scanned::Refused(Refusal {
             fault: Fault::at(number, start.place),
@@ -71,7 +71,7 @@ impl Scanned {
 
     // 7, at the literal's start, with what is on record.
     pub fn too_long(start: Position, here: Cursor, on_record: Terminator) -> Scanned
-        ensures { result ≡ Refused (tooLong start here on_record) }
+        ensures { result ≡ Refused (too_long start here on_record) }
     {
         Scanned::Refused(Refusal {
             fault: Fault::at(Fault::STRING_TOO_LONG, start),

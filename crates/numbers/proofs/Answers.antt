@@ -20,26 +20,26 @@ module _ (n : ℕ) (row memory : List ℕ) (e : length row ≡ n) where
     unfolding short
     is_short = rw long (lt-ltb (length memory) (n * 8) h)
 
-    pub short-fitted : 9 ≡ fitted row memory
+    pub short_fitted : 9 ≡ fitted row memory
     unfolding fitted
-    short-fitted = rw is_short
+    short_fitted = rw is_short
 
     pub short_leaves : memory ≡ answered row memory
     short_leaves = sym (untouched (spelled 8 row) memory (rw long h))
 
-    pub short-beside : (old new : List ℕ) → old ≡ beside row memory old new
+    pub short_beside : (old new : List ℕ) → old ≡ beside row memory old new
     unfolding beside
-    short-beside old new = rw is_short
+    short_beside old new = rw is_short
 
   module _ (h : n * 8 ≤ length memory) where
     not_short : short row memory ≡ false
     unfolding short
     not_short = rw long (le-ltb (length memory) (n * 8) h)
 
-    pub long-fitted : 0 ≡ fitted row memory
+    pub long_fitted : 0 ≡ fitted row memory
     unfolding fitted
-    long-fitted = rw not_short
+    long_fitted = rw not_short
 
-    pub long-beside : (old new : List ℕ) → new ≡ beside row memory old new
+    pub long_beside : (old new : List ℕ) → new ≡ beside row memory old new
     unfolding beside
-    long-beside old new = rw not_short
+    long_beside old new = rw not_short

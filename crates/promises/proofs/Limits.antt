@@ -1,4 +1,4 @@
--- The theorems Ours-meet and No-other of specs/Limits.antt. Assumes nothing.
+-- The theorems OursMeet and NoOther of specs/Limits.antt. Assumes nothing.
 use mathlib.Core.Logic.{◌⊎◌, inl, inr}
 use mathlib.Core.Path.{◌≡◌, sym, ◌∙◌}
 use Rattle.reading.specs.Reading.{Reading}

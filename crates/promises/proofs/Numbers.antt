@@ -1,4 +1,4 @@
--- The theorems Numbers-fit and Bytes-tell of specs/Numbers.antt. Assumes nothing.
+-- The theorems NumbersFit and BytesTell of specs/Numbers.antt. Assumes nothing.
 use Prim.Native.Nat.{ℕ, ◌≤◌}
 use native.Mathlib.Omega.{arith}
 use mathlib.Core.List.{List, [], ◌∷◌, ◌++◌, append_assoc}

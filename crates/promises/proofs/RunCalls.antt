@@ -1,4 +1,4 @@
--- Demand 3, carried to the functions. A call's `Learnt` is what the function's contract in src/lib.rt says of what was lent, what was answered and what is c-called then. Assumes nothing.
+-- Demand 3, carried to the functions. A call's `Learnt` is what the function's contract in src/lib.rt says of what was lent, what was answered and what is held then. Assumes nothing.
 use Prim.Native.Nat.{ℕ, ◌*◌, ◌≤◌}
 use native.Mathlib.Omega.{arith}
 use mathlib.Core.List.{List, [], ◌∷◌, ◌++◌, append_assoc}

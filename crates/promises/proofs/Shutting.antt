@@ -1,4 +1,4 @@
--- The theorem Shuts-out of specs/RoundTrip.antt, by three short bodies. Assumes nothing.
+-- The theorem ShutsOut of specs/RoundTrip.antt, by three short bodies. Assumes nothing.
 use Prim.Native.Nat.{ℕ}
 use native.Mathlib.Omega.{arith}
 use mathlib.Core.List.{List, [], ◌∷◌, ◌++◌}

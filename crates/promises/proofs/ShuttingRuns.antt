@@ -1,4 +1,4 @@
--- The theorem Shuts-out-runs of specs/Limits.antt, by two literals. Assumes nothing.
+-- The theorem ShutsOutRuns of specs/Limits.antt, by two literals. Assumes nothing.
 use Prim.Native.Nat.{ℕ}
 use native.Mathlib.Omega.{arith}
 use mathlib.Core.List.{List, [], ◌∷◌, ◌++◌}

@@ -1,4 +1,4 @@
--- The theorem Stands-anywhere of specs/RoundTrip.antt: texts that are UTF-8 are so together. Assumes nothing.
+-- The theorem StandsAnywhere of specs/RoundTrip.antt: texts that are UTF-8 are so together. Assumes nothing.
 use Prim.Native.Nat.{ℕ, zero, suc}
 use native.Mathlib.Omega.{arith}
 use mathlib.Core.Bool.{true}

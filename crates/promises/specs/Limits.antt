@@ -24,7 +24,7 @@ abbrev pub our_runs : Runs
 our_runs script book b = run_of document01 b script book
 
 -- ---- the words of the demand
--- Four of them stand in crate reading. `Wider b c`: the bounds c are nowhere stricter than b. `Begins l m`: what l lists, with its literal bytes, m lists first. `Ends-own l`: no limit and no room causes its ending. `Caused f`: the fault is 7, 9 or 10.
+-- Four of them stand in crate reading. `Wider b c`: the bounds c are nowhere stricter than b. `Begins l m`: what l lists, with its literal bytes, m lists first. `EndsOwn l`: no limit and no room causes its ending. `Caused f`: the fault is 7, 9 or 10.
 -- what the unlimited rules leave of a reading: all its tokens, their literal bytes, and how it ends
 abbrev pub unlimited : Reading → Left
 unlimited r = whole 0 r
@@ -80,11 +80,11 @@ pub record OneLiteral (script book : List ℕ) : Type 0 where
   pub end : Position
   pub is_read : run_reading document01 script book ≡ reads token trace (finishes end)
 
--- runs that read the first literal of a script and fake the rest, of which they know how long it is: by else-all, of two scripts
+-- runs that read the first literal of a script and fake the rest, of which they know how long it is: by else_all, of two scripts
 abbrev pub FakesTheRest : Runs → (List ℕ → ℕ → List ℕ → Bounds → Left) → Type 0
 FakesTheRest runs fake = (literal rest book : List ℕ) (b : Bounds) → OneLiteral literal book → runs (literal ++ rest) book b ≡ fake literal (length rest) book b
 
--- runs that miscount the entries of some script under some book within some bounds: by stops and else-all
+-- runs that miscount the entries of some script under some book within some bounds: by stops and else_all
 pub record Miscounts (runs : Runs) : Type 0 where
   pub script : List ℕ
   pub book : List ℕ

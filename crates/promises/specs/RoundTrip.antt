@@ -95,7 +95,7 @@ pub record ComesBack (body before : List ℕ) (start : Position) (buffer : List 
 --   a body that is UTF-8, and a valid start;
 --   any text before the body's literal and any after it, so that document 01 admits the whole;
 --   room for the literal where it is written, and a limit and room for the body where it is scanned:
--- the writer answers the literal's length (is-written); the scanner, entered behind the first `#` of what the writer made, accepts (is-accepted), tells that it used exactly that literal and left nothing on record (is-told), and leaves exactly that body at the front of its buffer (is-left).
+-- the writer answers the literal's length (is_written); the scanner, entered behind the first `#` of what the writer made, accepts (is_accepted), tells that it used exactly that literal and left nothing on record (is_told), and leaves exactly that body at the front of its buffer (is_left).
 abbrev pub ReadsBack : Writer → Scanner → Type 0
 ReadsBack w s =
     (body before after lent buffer : List ℕ) (start : Position) (limit : ℕ)
@@ -116,20 +116,20 @@ abbrev pub StandsAnywhere : Type 0
 StandsAnywhere = (body before after : List ℕ) → Utf8 body → Utf8 before → Utf8 after → Utf8 (before ++ raw_literal_of body ++ after)
 
 -- ---- what the demand shuts out, whatever the other of the two does
--- a scanner that refuses all: by is-accepted, and the number of is-told
+-- a scanner that refuses all: by is_accepted, and the number of is_told
 abbrev pub RefusesAll : Scanner → Type 0
 RefusesAll s = (text : List ℕ) (at : ℕ) (start : Position) (limit : ℕ) (buffer : List ℕ) → (told (s.answers text at start limit buffer)).number ≡ 0 → ⊥
 
--- one that has a fixed body, which may depend on everything but the text: by is-left, of two bodies
+-- one that has a fixed body, which may depend on everything but the text: by is_left, of two bodies
 abbrev pub FixedBody : Scanner → (ℕ → Position → ℕ → List ℕ → List ℕ) → Type 0
 FixedBody s body = (text : List ℕ) (at : ℕ) (start : Position) (limit : ℕ) (buffer : List ℕ) → s.leaves text at start limit buffer ≡ over (body at start limit buffer) buffer
 
--- one that invents how many bytes it used, knowing everything but the text: by the offset of is-told, of two bodies
+-- one that invents how many bytes it used, knowing everything but the text: by the offset of is_told, of two bodies
 abbrev pub InventsCount : Scanner → (ℕ → Position → ℕ → List ℕ → ℕ) → Type 0
 InventsCount s count =
     (text : List ℕ) (at : ℕ) (start : Position) (limit : ℕ) (buffer : List ℕ) → (told (s.answers text at start limit buffer)).cursor.at ≡ at + count at start limit buffer
 
--- a writer that writes nothing, whatever it answers: by is-written and is-left, as two bodies would have to come back from one text
+-- a writer that writes nothing, whatever it answers: by is_written and is_left, as two bodies would have to come back from one text
 abbrev pub WritesNothing : Writer → Type 0
 WritesNothing w = (body lent : List ℕ) → w.leaves body lent ≡ lent
 

@@ -27,7 +27,7 @@ pub record RepeatsCall (first second : Called) : Type 0 where
   pub recurs : ((f : Fault) → first.answer.ending ≡ Stop f → Own f) → second.answer ≡ first.answer
 
 -- ---- `stew_run`
--- `C-called` and `c-holds` stand in crate stew: the number returned, and what the three slices hold then; and what that is where the run has left l
+-- `CCalled` and `c_holds` stand in crate stew: the number returned, and what the three slices hold then; and what that is where the run has left l
 -- the i-th of the numbers that stand in bytes, four little-endian bytes each
 abbrev pub number_at : ℕ → List ℕ → ℕ
 number_at i bytes = value (take 4 (drop (4 * i) bytes))

@@ -18,7 +18,7 @@ use Rattle.literal.specs.declared.End.{End}
 use Rattle.literal.specs.declared.Refusal.{Refusal}
 use Rattle.literal.specs.declared.Scanned.TheVariants.{Accepted, Refused}
 use Rattle.literal.proofs.Limits.{accepted_whole, uncut_within, recurs_whole, cut_at_the_first}
-use Rattle.literal.specs.Answers.{asGiven, full}
+use Rattle.literal.specs.Answers.{as_given, full}
 use Rattle.raw.specs.Raw.{read_of, Newlines}
 use Rattle.raw.proofs.scan.Limits.{read_fair_trace}
 use Rattle.raw.specs.Entries.{raw_trace, enters_of, resumes_of, parse_trace, parse_of, resume_trace, resume_of}
@@ -28,7 +28,7 @@ module _ (mode : Newlines) (t : List ℕ) where
   trace_fair_trace : (n : ℕ) (start : Cursor) (k : ℕ) → n ≤ 3 → FairTrace start.place (raw_trace mode n t start k)
   unfolding raw_trace
   trace_fair_trace n start k h =
-      pick_cases (FairTrace start.place) (eqb n 0) (read_of mode t start k) (fails (asGiven n start)) (λ q. read_fair_trace mode t start k) (λ q. (λ p. omega arith, λ p. omega arith, λ p. omega arith))
+      pick_cases (FairTrace start.place) (eqb n 0) (read_of mode t start k) (fails (as_given n start)) (λ q. read_fair_trace mode t start k) (λ q. (λ p. omega arith, λ p. omega arith, λ p. omega arith))
 
   module _ (at : ℕ) (p : Position) where
     -- entered after the first hash

@@ -21,7 +21,7 @@ use Rattle.literal.specs.declared.Refusal.{Refusal}
 use Rattle.literal.specs.declared.Scanned.{Scanned}
 use Rattle.literal.specs.declared.Scanned.TheVariants.{Refused}
 use Rattle.literal.proofs.Turns.{cut_fails}
-use Rattle.literal.specs.Answers.{asGiven, full}
+use Rattle.literal.specs.Answers.{as_given, full}
 use Rattle.raw.specs.Raw.{read_of, Newlines}
 use Rattle.raw.specs.Entries.{raw_trace, enters_of, resumes_of, parse_trace, parse_of, resume_trace, resume_of}
 
@@ -89,9 +89,9 @@ module _ (t : List ℕ) (start : Cursor) where
 
 -- a scan, where something was refused and where nothing was
 module _ (mode : Newlines) (n : ℕ) (t : List ℕ) (start : Cursor) (k : ℕ) where
-  pub is_refused : (full : Refusal) (limit room : ℕ) → (n ≡ 0 → ⊥) → Refused (asGiven n start) ≡ cut full limit room 0 (raw_trace mode n t start k)
+  pub is_refused : (full : Refusal) (limit room : ℕ) → (n ≡ 0 → ⊥) → Refused (as_given n start) ≡ cut full limit room 0 (raw_trace mode n t start k)
   unfolding raw_trace
-  is_refused full limit room h = rw (ne_eqb n 0 h) (sym (cut_fails full limit room 0 (asGiven n start)))
+  is_refused full limit room h = rw (ne_eqb n 0 h) (sym (cut_fails full limit room 0 (as_given n start)))
 
   module _ (z : n ≡ 0) where
     pub reads_on : raw_trace mode n t start k ≡ read_of mode t start k

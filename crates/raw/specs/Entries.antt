@@ -39,12 +39,12 @@ use Rattle.chars.specs.declared.cursor.Cursor.{Cursor}
 use Rattle.literal.specs.Trace.{Trace, fails}
 use Rattle.literal.specs.Cut.{cut}
 use Rattle.literal.specs.declared.Scanned.{Scanned}
-use Rattle.literal.specs.Answers.{asGiven, full}
+use Rattle.literal.specs.Answers.{as_given, full}
 use Rattle.raw.specs.Raw.{read_of, Newlines}
 
 -- the reading, or the refusal that the arguments are given where its number is not 0
 unfoldable pub raw_trace : Newlines → ℕ → Text → Cursor → ℕ → Trace
-raw_trace mode number t start k = pick (eqb number 0) (read_of mode t start k) (fails (asGiven number start))
+raw_trace mode number t start k = pick (eqb number 0) (read_of mode t start k) (fails (as_given number start))
 
 -- what the arguments refuse: 2, 1, 3 at the door; 3 for a place on no line; 0 for nothing
 unfoldable pub enters_of : Text → Cursor → ℕ

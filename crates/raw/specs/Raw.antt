@@ -13,7 +13,7 @@ use Rattle.literal.specs.Trace.{Trace, ends, fails, Yield, added, tested, yields
 use Rattle.literal.specs.declared.Terminator.{Terminator}
 use Rattle.literal.specs.declared.End.{End}
 use Rattle.classes.specs.Marks.{lf, quote, hash}
-use Rattle.literal.specs.Answers.{nothing, ending, tooLong}
+use Rattle.literal.specs.Answers.{nothing, ending, too_long}
 use Rattle.raw.specs.Opening.{opened_of}
 use Rattle.raw.specs.declared.open.Opened.{Opened}
 use Rattle.raw.specs.declared.open.Opened.TheVariants as opened
@@ -55,7 +55,7 @@ held_back (suc n) = quote ∷ replicate n hash
 
 -- a step that does not close: bytes are added and the limit is tested; then the first place is set where it was not
 abbrev pub steps : Position → ℕ → Offset → Position → Bytes → ℕ → Position → Turn BodyState (List Yield) Trace
-steps start k at first bs n p = go (added bs ∷ tested (tooLong start (cursor at p) (hashes_of k)) ∷ []) 0 (body_state n p (or_else first p))
+steps start k at first bs n p = go (added bs ∷ tested (too_long start (cursor at p) (hashes_of k)) ∷ []) 0 (body_state n p (or_else first p))
 
 -- the place behind a kept character, one column on at p: an LF that starts a line
 unfoldable pub placed : Newlines → ℕ → Code → Position → Position

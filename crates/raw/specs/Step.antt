@@ -13,7 +13,7 @@ use Rattle.literal.specs.Trace.{added, tested}
 use Rattle.literal.specs.Cut.{cut}
 use Rattle.literal.specs.declared.Refusal.{Refusal}
 use Rattle.classes.specs.Marks.{quote, hash}
-use Rattle.literal.specs.Answers.{tooLong}
+use Rattle.literal.specs.Answers.{too_long}
 use Rattle.raw.specs.Raw.{as_source, hashes_of, BodyState, body_state, placed, body_rule, Newlines}
 use Rattle.raw.specs.declared.scan.Lost.{Lost}
 use Rattle.raw.specs.declared.scan.Stand.{Stand}
@@ -23,7 +23,7 @@ pub record Adds (mode : Newlines) (t : List ℕ) (k at : ℕ) (s : BodyState) (n
   pub bytes : List ℕ
   pub count : length bytes ≡ n
   pub moves : (start : Position)
-      → move_at (body_rule mode start k) t at s ≡ on (added bytes ∷ tested (tooLong start (cursor next r.place) (hashes_of k)) ∷ []) next r
+      → move_at (body_rule mode start k) t at s ≡ on (added bytes ∷ tested (too_long start (cursor next r.place) (hashes_of k)) ∷ []) next r
 
 -- a character that ends an attempt to close
 abbrev pub Failing : Code → Type 0

@@ -1,4 +1,4 @@
--- The theorem Step-by-step of specs/Script.antt: every step leads further and stays within the script. Assumes nothing.
+-- The theorem StepByStep of specs/Script.antt: every step leads further and stays within the script. Assumes nothing.
 use mathlib.Core.Path.{◌≡◌, refl}
 use Rattle.script.specs.Steps.{Step, on, last, step_of}
 use Rattle.script.specs.Script.{on_step, script_from, StepByStep}

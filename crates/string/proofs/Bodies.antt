@@ -15,7 +15,7 @@ use Rattle.chars.specs.Scan.{Turn, go, stop}
 use Rattle.chars.specs.declared.cursor.Cursor.{Cursor}
 use Rattle.chars.proofs.Holds.{scan_holds}
 use Rattle.literal.specs.Trace.{Trace, checks, Yield, added, tested, yields, bytes}
-use Rattle.literal.specs.Answers.{once, tooLong}
+use Rattle.literal.specs.Answers.{once, too_long}
 use Rattle.string_turn.specs.Take.{input_end, take_of}
 use Rattle.string_turn.specs.declared.take.Scanning.{Scanning}
 use Rattle.string_turn.specs.declared.take.Last.{Last}
@@ -51,16 +51,16 @@ module _ (white : ℕ → Bool) (t : List ℕ) (q : ℕ) (start : Position) wher
   turned at cs s = taken (take_of t q start at s)
     where
       acted : (here : Cursor) (x : Acted)
-          → Turned (on_acted x (λ d next r. go (tested (tooLong start here (once q)) ∷ added (encoded d) ∷ []) (length cs - suc (length (chars_at t next))) r)
-          (λ last. stop (checks (tooLong start here (once q)) (last_of start last))))
+          → Turned (on_acted x (λ d next r. go (tested (too_long start here (once q)) ∷ added (encoded d) ∷ []) (length cs - suc (length (chars_at t next))) r)
+          (λ last. stop (checks (too_long start here (once q)) (last_of start last))))
       acted here (step.Go d next r) = λ y h. encoded_well d (bytes y) ∙ h
       acted here (step.Over last) = last_well start last
 
       taken : (x : Got)
           → Turned (on_got x
           (λ c here. on_acted (act_of white t q start c here s)
-          (λ d next r. go (tested (tooLong start here (once q)) ∷ added (encoded d) ∷ []) (length cs - suc (length (chars_at t next))) r)
-          (λ last. stop (checks (tooLong start here (once q)) (last_of start last))))
+          (λ d next r. go (tested (too_long start here (once q)) ∷ added (encoded d) ∷ []) (length cs - suc (length (chars_at t next))) r)
+          (λ last. stop (checks (too_long start here (once q)) (last_of start last))))
           (λ last. stop (last_of start last)))
       taken (got.Char c here) = acted here (act_of white t q start c here s)
       taken (got.Over last) = last_well start last

@@ -16,15 +16,15 @@ use Rattle.literal.specs.declared.Scanned.{Scanned}
 use Rattle.literal.specs.declared.Scanned.TheVariants.{Accepted, Refused}
 use Rattle.literal.proofs.Turns.{cut_fails}
 use Rattle.literal.proofs.Limits.{accepted_whole}
-use Rattle.literal.specs.Answers.{asGiven, full}
+use Rattle.literal.specs.Answers.{as_given, full}
 use Rattle.string.specs.Reading.{string_reading}
 use Rattle.string.specs.Entry.{argument_number, string_trace, scan_of}
 
 module _ (t : List ℕ) (at : ℕ) (p : Position) (q limit room : ℕ) {n : ℕ} (e : n ≡ argument_number t at p q) where
   -- the arguments
-  pub argument_refused : (n ≡ 0 → ⊥) → {r : Scanned} → r ≡ Refused (asGiven n (cursor at p)) → r ≡ scan_of t at p q limit room
+  pub argument_refused : (n ≡ 0 → ⊥) → {r : Scanned} → r ≡ Refused (as_given n (cursor at p)) → r ≡ scan_of t at p q limit room
   unfolding scan_of string_trace
-  argument_refused z k = rw (← e, ne_eqb n 0 z, k) (sym (cut_fails (full (cursor at p)) limit room 0 (asGiven n (cursor at p))))
+  argument_refused z k = rw (← e, ne_eqb n 0 z, k) (sym (cut_fails (full (cursor at p)) limit room 0 (as_given n (cursor at p))))
 
   module _ (z : n ≡ 0) where
     admits : string_trace t at p q ≡ string_reading is_white t q (cursor at p)

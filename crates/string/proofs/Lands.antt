@@ -14,7 +14,7 @@ use Rattle.chars.specs.declared.cursor.Cursor.{Cursor}
 use Rattle.chars.proofs.Holds.{scan_holds}
 use Rattle.literal.specs.Trace.{Trace, checks, Yield, added, tested, bytes, final}
 use Rattle.literal.proofs.Lands.{LandsFrom, size, lands_behind}
-use Rattle.literal.specs.Answers.{once, tooLong}
+use Rattle.literal.specs.Answers.{once, too_long}
 use Rattle.string_turn.specs.Take.{input_end, take_of}
 use Rattle.string_turn.specs.declared.take.Scanning.{Scanning}
 use Rattle.string_turn.specs.declared.take.Last.{Last}
@@ -53,16 +53,16 @@ module _ (t : List ℕ) where
     turned at cs s = taken (take_of t q start at s) (take_lands t q start at s)
       where
         acted : (here : Cursor) (x : Acted) → StepLands t at x
-            → Turned at (on_acted x (λ d next r. go (tested (tooLong start here (once q)) ∷ added (encoded d) ∷ []) (length cs - suc (length (chars_at t next))) r)
-            (λ last. stop (checks (tooLong start here (once q)) (last_of start last))))
+            → Turned at (on_acted x (λ d next r. go (tested (too_long start here (once q)) ∷ added (encoded d) ∷ []) (length cs - suc (length (chars_at t next))) r)
+            (λ last. stop (checks (too_long start here (once q)) (last_of start last))))
         acted here (step.Go d next r) p = omega (arith, few d)
         acted here (step.Over last) p = last_final at start last p
 
         taken : (x : Got) → GotLands t at x
             → Turned at (on_got x
             (λ c here. on_acted (act_of white t q start c here s)
-            (λ d next r. go (tested (tooLong start here (once q)) ∷ added (encoded d) ∷ []) (length cs - suc (length (chars_at t next))) r)
-            (λ last. stop (checks (tooLong start here (once q)) (last_of start last))))
+            (λ d next r. go (tested (too_long start here (once q)) ∷ added (encoded d) ∷ []) (length cs - suc (length (chars_at t next))) r)
+            (λ last. stop (checks (too_long start here (once q)) (last_of start last))))
             (λ last. stop (last_of start last)))
         taken (got.Char c here) (f, l) = acted here (act_of white t q start c here s) (act_lands white t q start at c here s f l)
         taken (got.Over last) p = last_final at start last p

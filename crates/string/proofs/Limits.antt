@@ -11,7 +11,7 @@ use Rattle.chars.specs.Scan.{go, stop, run, run_at, on_turn}
 use Rattle.chars.specs.declared.cursor.Cursor.{Cursor}
 use Rattle.literal.specs.Trace.{Trace, checks, added, tested, yields}
 use Rattle.literal.specs.Limits.{FairTrace}
-use Rattle.literal.specs.Answers.{once, tooLong}
+use Rattle.literal.specs.Answers.{once, too_long}
 use Rattle.string_turn.specs.Take.{input_end, take_of}
 use Rattle.string_turn.specs.Act.{act_of}
 use Rattle.string_turn.specs.declared.take.Scanning.{Scanning}
@@ -42,16 +42,16 @@ module _ (white : ℕ → Bool) (t : List ℕ) (q : ℕ) (start : Position) wher
       on k r = run (string_rule white t q start) k cs (at + c.width) r
 
       acted : (here : Cursor) (x : Acted) → Steps t here.at x → ((k : ℕ) (r : Scanning) → FairTrace start (on k r))
-          → FairTrace start (on_turn (on_acted x (λ d next r. go (tested (tooLong start here (once q)) ∷ added (encoded d) ∷ []) (length (c ∷ cs) - suc (length (chars_at t next))) r)
-          (λ last. stop (checks (tooLong start here (once q)) (last_of start last)))) (λ n k r. yields n (on k r)) (λ r. r))
+          → FairTrace start (on_turn (on_acted x (λ d next r. go (tested (too_long start here (once q)) ∷ added (encoded d) ∷ []) (length (c ∷ cs) - suc (length (chars_at t next))) r)
+          (λ last. stop (checks (too_long start here (once q)) (last_of start last)))) (λ n k r. yields n (on k r)) (λ r. r))
       acted here (step.Go d next r) p ih = (refl, ih (suc (length cs) - suc (length (chars_at t next))) r)
       acted here (step.Over last) p ih = (refl, last_fair_trace start last p)
 
       taken : (x : Got) → Gets t at x → ((k : ℕ) (r : Scanning) → FairTrace start (on k r))
           → FairTrace start (on_turn (on_got x
           (λ d here. on_acted (act_of white t q start d here s)
-          (λ d next r. go (tested (tooLong start here (once q)) ∷ added (encoded d) ∷ []) (length (c ∷ cs) - suc (length (chars_at t next))) r)
-          (λ last. stop (checks (tooLong start here (once q)) (last_of start last))))
+          (λ d next r. go (tested (too_long start here (once q)) ∷ added (encoded d) ∷ []) (length (c ∷ cs) - suc (length (chars_at t next))) r)
+          (λ last. stop (checks (too_long start here (once q)) (last_of start last))))
           (λ last. stop (last_of start last))) (λ n k r. yields n (on k r)) (λ r. r))
       taken (got.Char d here) p ih = acted here (act_of white t q start d here s) (act_steps t white q start d here s) ih
       taken (got.Over last) p ih = last_fair_trace start last p

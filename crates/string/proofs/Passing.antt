@@ -22,7 +22,7 @@ use Rattle.chars.proofs.Cursors.{ate, got, got_none}
 use Rattle.chars.proofs.Stretches.{is_other}
 use Rattle.literal.specs.Trace.{adds, checks}
 use Rattle.classes.specs.Marks.{lf, cr, dollar, backslash, backtick, left_brace}
-use Rattle.literal.specs.Answers.{once, tooLong}
+use Rattle.literal.specs.Answers.{once, too_long}
 use Rattle.escape.specs.Escapes.{on_taken}
 use Rattle.string_turn.specs.Kinds.{is_verbatim, is_interpolated}
 use Rattle.string_turn.specs.Take.{scanning, is_empty, next_is, dollar_of, take_of}
@@ -73,7 +73,7 @@ module _ (white : ℕ → Bool) (t : List ℕ) (q : ℕ) (start : Position) wher
         let n = is_other q backslash dollar lf cr c y in
         rw (n.0, n.4, n.3, n.1, both_no, le-ltb (column_number (advanced p)) 0 (omega arith), both_no)
 
-    one_plain : run_at (string_rule white t q start) t b here ≡ checks (tooLong start next (once q)) (adds (encoded c) (run_at (string_rule white t q start) t (b + w) then))
+    one_plain : run_at (string_rule white t q start) t b here ≡ checks (too_long start next (once q)) (adds (encoded c) (run_at (string_rule white t q start) t (b + w) then))
     one_plain = goes_on white t q start b here taken acted
 
   -- ---- one that text only adds
@@ -106,7 +106,7 @@ module _ (white : ℕ → Bool) (t : List ℕ) (q : ℕ) (start : Position) wher
     added_acted (slash h) = rw (le-ltb (column_number (advanced p)) 0 (omega arith), both_no)
 
     pub one_added : {c : ℕ} → look_at t b ≡ Char c 1 → q ≡ backtick → Added t (b + 1) c
-        → run_at (string_rule white t q start) t b before ≡ checks (tooLong start behind (once q)) (adds (encoded c) (run_at (string_rule white t q start) t (b + 1) (at_last c)))
+        → run_at (string_rule white t q start) t b before ≡ checks (too_long start behind (once q)) (adds (encoded c) (run_at (string_rule white t q start) t (b + 1) (at_last c)))
     one_added e h a = rw h (goes_on white t backtick start b before (added_taken e a) (added_acted a))
 
   -- ---- all of them
@@ -123,5 +123,5 @@ module _ (white : ℕ → Bool) (t : List ℕ) (q : ℕ) (start : Position) wher
 
     pub one_after : (k b : ℕ) {c w : ℕ} → look_at t b ≡ Char c w → Plain q c
         → run_at (string_rule white t q start) t b (after k)
-        ≡ checks (tooLong start (cursor (b + w) (advanced (advanced_by k p))) (once q)) (adds (encoded c) (run_at (string_rule white t q start) t (b + w) (after (k + 1))))
+        ≡ checks (too_long start (cursor (b + w) (advanced (advanced_by k p))) (once q)) (adds (encoded c) (run_at (string_rule white t q start) t (b + w) (after (k + 1))))
     one_after k b e y = rw (advanced_by_more k p, ← first_by_more f p k) (one_plain (advanced_by k p) (first_by k f p) b e y)

@@ -17,7 +17,7 @@ use Rattle.chars.proofs.Scans.{move_on, move_over, at_end_lem, many_on, is_over}
 use Rattle.chars.proofs.Cursors.{ate_none}
 use Rattle.literal.specs.Trace.{Trace, adds, checks, Yield, added, tested, yields}
 use Rattle.literal.specs.declared.Refusal.{Refusal}
-use Rattle.literal.specs.Answers.{once, tooLong}
+use Rattle.literal.specs.Answers.{once, too_long}
 use Rattle.escape.specs.Escapes.{no_char}
 use Rattle.chars.proofs.Reaches.{Reached, Further, behind, further_on, Counted, counted, further_low, further_high}
 use Rattle.string_turn.specs.Take.{input_end, take_of}
@@ -61,11 +61,11 @@ module _ (white : ℕ → Bool) (t : List ℕ) (q : ℕ) (start : Position) (at 
     further = rw g at (take_gets t q start at s)
 
     -- behind the limit it is over
-    pub over_then : {last : Last} → act_of white t q start c here s ≡ step.Over last → reading at s ≡ checks (tooLong start here (once q)) (last_of start last)
+    pub over_then : {last : Last} → act_of white t q start c here s ≡ step.Over last → reading at s ≡ checks (too_long start here (once q)) (last_of start last)
     unfolding string_rule string_turn
     over_then {last} f = by (look_at t at) refl
       where
-        by : (x : Look) → look_at t at ≡ x → reading at s ≡ checks (tooLong start here (once q)) (last_of start last)
+        by : (x : Look) → look_at t at ≡ x → reading at s ≡ checks (too_long start here (once q)) (last_of start last)
         by (Char c w) e = move_over (string_rule white t q start) t at s (is_over (string_rule white t q start) t at s e (rw (g, f)))
         by End e = no_over (sym (none_taken e) ∙ g)
 
@@ -80,7 +80,7 @@ module _ (white : ℕ → Bool) (t : List ℕ) (q : ℕ) (start : Position) (at 
       goes_high = further_high (further_on further reached)
 
       abbrev notes : List Yield
-      notes = tested (tooLong start here (once q)) ∷ added (encoded d) ∷ []
+      notes = tested (too_long start here (once q)) ∷ added (encoded d) ∷ []
 
       moves : Further t at next → move_at (string_rule white t q start) t at s ≡ on notes next r
       unfolding string_rule string_turn
@@ -90,7 +90,7 @@ module _ (white : ℕ → Bool) (t : List ℕ) (q : ℕ) (start : Position) (at 
           many_on (string_rule white t q start) t at s e (rw (g, f) (ap (λ (m : ℕ). go notes m r) k)) ∙ ap (λ (m : ℕ). on notes m r) (sym n.bytes)
 
       -- it goes on, with the bytes of a character
-      pub goes_on : reading at s ≡ checks (tooLong start here (once q)) (adds (encoded d) (reading next r))
+      pub goes_on : reading at s ≡ checks (too_long start here (once q)) (adds (encoded d) (reading next r))
       unfolding string_rule yields
       goes_on = move_on (string_rule white t q start) t at s (moves (further_on further reached))
 
@@ -113,7 +113,7 @@ module _ (white : ℕ → Bool) (t : List ℕ) (q : ℕ) (start : Position) (at 
     pub once_on : {d next : ℕ} {r : Scanning} → act_of white t q start c here s ≡ step.Go d next r → Once d next r
     once_on f =
         record {
-          seven = tooLong start here (once q);
+          seven = too_long start here (once q);
           is = goes_on white t q start at s g f;
           low = goes_low white t q start at s g f;
           high = goes_high white t q start at s g f;
@@ -123,9 +123,9 @@ module _ (white : ℕ → Bool) (t : List ℕ) (q : ℕ) (start : Position) (at 
       pub twice_on : {c' : ℕ} {here' : Cursor} → take_of t q start mid m ≡ got.Char c' here' → {d next : ℕ} {r : Scanning} → act_of white t q start c' here' m ≡ step.Go d next r → Twice d next r
       twice_on {c'} {here'} g' f' =
           record {
-            seven = tooLong start here (once q);
-            eight = tooLong start here' (once q);
-            is = goes_on white t q start at s g f ∙ ap (λ (x : Trace). checks (tooLong start here (once q)) (adds (encoded no_char) x)) (goes_on white t q start mid m g' f');
+            seven = too_long start here (once q);
+            eight = too_long start here' (once q);
+            is = goes_on white t q start at s g f ∙ ap (λ (x : Trace). checks (too_long start here (once q)) (adds (encoded no_char) x)) (goes_on white t q start mid m g' f');
             low = omega (arith, goes_low white t q start at s g f, goes_low white t q start mid m g' f');
             high = goes_high white t q start mid m g' f';
           }

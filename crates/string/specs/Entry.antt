@@ -30,7 +30,7 @@ use Rattle.literal.specs.Trace.{Trace, fails}
 use Rattle.literal.specs.Cut.{cut}
 use Rattle.literal.specs.declared.Scanned.{Scanned}
 use Rattle.classes.specs.Marks.{quote, apostrophe, backtick}
-use Rattle.literal.specs.Answers.{asGiven, full}
+use Rattle.literal.specs.Answers.{as_given, full}
 use Rattle.string.specs.Reading.{string_reading}
 
 -- 3: the place is on no line, an ordinary literal starts at column 0, or the terminator is none of the three
@@ -47,7 +47,7 @@ argument_number t at p q = pick (eqb (door_of t at) 0) (start_number p q) (door_
 
 -- the reading, with the refusals of the arguments in front
 unfoldable pub string_trace : Text → Offset → Position → Code → Trace
-string_trace t at p q = pick (eqb (argument_number t at p q) 0) (string_reading is_white t q (cursor at p)) (fails (asGiven (argument_number t at p q) (cursor at p)))
+string_trace t at p q = pick (eqb (argument_number t at p q) 0) (string_reading is_white t q (cursor at p)) (fails (as_given (argument_number t at p q) (cursor at p)))
 
 -- the scan's answer
 unfoldable pub scan_of : Text → Offset → Position → Code → ℕ → ℕ → Scanned

@@ -10,7 +10,7 @@ use Rattle.chars.specs.Scan.{Turn, go, stop, Rule, run_at}
 use Rattle.chars.specs.declared.cursor.Cursor.{Cursor}
 use Rattle.literal.specs.Trace.{Trace, checks, Yield, added, tested, yields}
 use Rattle.classes.specs.Marks.{lf, cr, dollar, backslash}
-use Rattle.literal.specs.Answers.{once, tooLong}
+use Rattle.literal.specs.Answers.{once, too_long}
 use Rattle.string_turn.specs.Kinds.{is_verbatim, is_interpolated}
 use Rattle.string_turn.specs.Take.{scanning, input_end, take_of}
 use Rattle.string_turn.specs.Act.{act_of}
@@ -38,8 +38,8 @@ unfoldable pub string_turn : (Code → Bool) → Text → Code → Position → 
 string_turn white t q start at cs s =
     on_got (take_of t q start at s)
     (λ c here. on_acted (act_of white t q start c here s)
-    (λ d next s'. go (tested (tooLong start here (once q)) ∷ added (encoded d) ∷ []) (length cs - suc (length (chars_at t next))) s')
-    (λ last. stop (checks (tooLong start here (once q)) (last_of start last))))
+    (λ d next s'. go (tested (too_long start here (once q)) ∷ added (encoded d) ∷ []) (length cs - suc (length (chars_at t next))) s')
+    (λ last. stop (checks (too_long start here (once q)) (last_of start last))))
     (λ last. stop (last_of start last))
 
 -- the rule for a terminator, of the text t, for a literal that starts at a place; `white` is the white-space test of the continuation

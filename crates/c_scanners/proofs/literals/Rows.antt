@@ -34,7 +34,7 @@ module _ (s : Scanned) (answer : List ℕ) where
     too_short {e} q z t out =
         record {
           number = z ∙ ap (λ (x : Scanned). short_row_number (refusal_number x)) q ∙ short_told 11 (literal_row s) answer long (refusal_number e) h;
-          body = row.short-beside 11 (literal_row s) answer long h out (wrote s t out);
+          body = row.short_beside 11 (literal_row s) answer long h out (wrote s t out);
           row = short_leaves;
         }
 
@@ -48,6 +48,6 @@ module _ (s : Scanned) (answer : List ℕ) where
     in_full e t {out = out} k w f g =
         record {
           number = rw k at f ∙ long_told 11 (literal_row s) answer long (refusal_number e) h;
-          body = rw k at w ∙ row.long-beside 11 (literal_row s) answer long h out (wrote s t out);
+          body = rw k at w ∙ row.long_beside 11 (literal_row s) answer long h out (wrote s t out);
           row = rw k at g;
         }

@@ -31,51 +31,51 @@ kind_none [] e = refl
 kind_none (b ∷ w) e = absurd (omega arith)
 
 module _ (w : List ℕ) where
-  pub kind-letter : is_id_first_alphabetic (get_or w 0 0) ≡ true → listed_kind w ≡ 2
+  pub kind_letter : is_id_first_alphabetic (get_or w 0 0) ≡ true → listed_kind w ≡ 2
   unfolding listed_kind
-  kind-letter y = rw y
+  kind_letter y = rw y
 
-  pub kind-other : is_id_first_alphabetic (get_or w 0 0) ≡ false → listed_kind w ≡ 3
+  pub kind_other : is_id_first_alphabetic (get_or w 0 0) ≡ false → listed_kind w ≡ 3
   unfolding listed_kind
-  kind-other n = rw n
+  kind_other n = rw n
 
 -- what no keyword and no symbol is, as the book found without its check says
 module _ (book w : List ℕ) (g : good book ≡ true) where
-  pub is-reserved : (halved_of book w).found ≡ true → class_in book w None ≡ Is 11 Token.Reserved
+  pub is_reserved : (halved_of book w).found ≡ true → class_in book w None ≡ Is 11 Token.Reserved
   unfolding class_in
-  is-reserved y = rw (← halved book g w, y)
+  is_reserved y = rw (← halved book g w, y)
 
   module _ (n : (halved_of book w).found ≡ false) where
     pub is_name : is_valid_identifier w ≡ true → class_in book w None ≡ Is 1 Token.Identifier
     unfolding class_in unlisted
     is_name y = rw (← halved book g w, n, y)
 
-    pub is-malformed : is_valid_identifier w ≡ false → class_in book w None ≡ Malformed
+    pub is_malformed : is_valid_identifier w ≡ false → class_in book w None ≡ Malformed
     unfolding class_in unlisted
-    is-malformed m = rw (← halved book g w, n, m)
+    is_malformed m = rw (← halved book g w, n, m)
 
 -- the class of a text, by what the lookup found
 module _ (book w : List ℕ) where
-  pub class-listed : {t : ℕ} → lookup_of w ≡ Some t → class_of book w ≡ Is (listed_kind w) t
+  pub class_listed : {t : ℕ} → lookup_of w ≡ Some t → class_of book w ≡ Is (listed_kind w) t
   unfolding class_of class_in
-  class-listed e = rw e
+  class_listed e = rw e
 
-  pub class-unlisted : lookup_of w ≡ None → class_of book w ≡ class_in book w None
+  pub class_unlisted : lookup_of w ≡ None → class_of book w ≡ class_in book w None
   unfolding class_of
-  class-unlisted e = rw e
+  class_unlisted e = rw e
 
 -- the whole from its first character
 module _ (t book : List ℕ) (s : Cursor) where
-  pub nothing-there : get_next_of t s ≡ taken.End → identify_of t book s ≡ Refused (fault 3 s.place) s
+  pub nothing_there : get_next_of t s ≡ taken.End → identify_of t book s ≡ Refused (fault 3 s.place) s
   unfolding identify_of identified_from
-  nothing-there q = rw (got_ended t s q)
+  nothing_there q = rw (got_ended t s q)
 
   module _ {c : ℕ} {first : Cursor} (q : get_next_of t s ≡ taken.Char c first) where
-    pub begins-here : identify_of t book s ≡ spanned t book s (stretch_end Stretch.Word t first)
+    pub begins_here : identify_of t book s ≡ spanned t book s (stretch_end Stretch.Word t first)
     unfolding identify_of identified_from
-    begins-here =
+    begins_here =
         let k : Took t s.at s.place c first = got_took t s q in
         rw k.found (ap (λ (x : Cursor). spanned t book s (stretch_end Stretch.Word t x)) (sym k.stands))
 
-    pub first-within : (s.at < first.at) × (first.at ≤ length t)
-    first-within = further t s.at s.place (got_took t s q)
+    pub first_within : (s.at < first.at) × (first.at ≤ length t)
+    first_within = further t s.at s.place (got_took t s q)

@@ -14,7 +14,7 @@ use Rattle.literal.specs.declared.End.{End}
 use Rattle.literal.specs.declared.Refusal.{Refusal}
 use Rattle.literal.specs.declared.Scanned.TheVariants.{Accepted, Refused}
 use Rattle.literal.proofs.Turns.{cut_ends, cut_full, cut_adds, cut_long, cut_on}
-use Rattle.literal.specs.Answers.{tooLong}
+use Rattle.literal.specs.Answers.{too_long}
 use Rattle.raw.specs.Raw.{BodyState, body_rule, Newlines, hashes_of}
 use Rattle.raw.specs.Step.{Adds}
 
@@ -23,7 +23,7 @@ module _ (mode : Newlines) (start : Position) (t : List ℕ) (k at : ℕ) (s : B
   rest = run_at (body_rule mode start k) t at s
 
   -- what a turn that goes on adds to the reading
-  pub went_on : {m next : ℕ} {r : BodyState} → (a : Adds mode t k at s m next r) → rest ≡ adds a.bytes (checks (tooLong start (cursor next r.place) (hashes_of k)) (run_at (body_rule mode start k) t next r))
+  pub went_on : {m next : ℕ} {r : BodyState} → (a : Adds mode t k at s m next r) → rest ≡ adds a.bytes (checks (too_long start (cursor next r.place) (hashes_of k)) (run_at (body_rule mode start k) t next r))
   unfolding yields
   went_on a = move_on (body_rule mode start k) t at s (a.moves start)
 
@@ -37,7 +37,7 @@ module _ (mode : Newlines) (start : Position) (t : List ℕ) (k at : ℕ) (s : B
       no_room h = rw (went_on a) (cut_full full limit room n m a.bytes _ a.count l (omega arith))
 
       module _ (h : n' ≤ room) where
-        pub is_too_long : passes limit n' ≡ true → cut full limit room n rest ≡ Refused (tooLong start (cursor next r.place) (hashes_of k))
+        pub is_too_long : passes limit n' ≡ true → cut full limit room n rest ≡ Refused (too_long start (cursor next r.place) (hashes_of k))
         is_too_long o = rw (went_on a) (cut_adds full limit room n m a.bytes _ a.count l (omega arith) ∙ cut_long full limit room (n + m) _ _ (rw (← q) o))
 
         pub goes_on : passes limit n' ≡ false → cut full limit room n rest ≡ cut full limit room n' (run_at (body_rule mode start k) t next r)

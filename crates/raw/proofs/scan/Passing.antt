@@ -26,7 +26,7 @@ use Rattle.literal.specs.declared.Refusal.{Refusal}
 use Rattle.literal.specs.declared.Scanned.{Scanned}
 use Rattle.literal.proofs.Limits.{fewer}
 use Rattle.literal.proofs.Within.{adds_within}
-use Rattle.literal.specs.Answers.{tooLong}
+use Rattle.literal.specs.Answers.{too_long}
 use Rattle.raw.specs.Raw.{as_source, hashes_of, BodyState, body_state, held_back, placed, body_turn, body_rule}
 use Rattle.raw.specs.Step.{Adds, Failing, Hashes, LostAt, again, ended, BodyPasses}
 use Rattle.raw.specs.declared.scan.Lost.{Lost}
@@ -74,7 +74,7 @@ module _ (t : List ℕ) (k limit room most : ℕ) (s : Stand) (g : s.n + most �
         let n = is_other 0x22 0x0A 0x0A 0x0A 0x0A c y in
         let z : b + w - from ≡ b - from + w = omega arith in
         let p = advanced (advanced_by i s.here.place) in
-        stretches.plain_turn (body_rule as_source start k) t after view {n = added (encode c) ∷ tested (tooLong start (cursor (b + w) p) (hashes_of k)) ∷ []} e
+        stretches.plain_turn (body_rule as_source start k) t after view {n = added (encode c) ∷ tested (too_long start (cursor (b + w) p) (hashes_of k)) ∷ []} e
         (rw (n.0, n.1, advanced_by_more i s.here.place, ← first_by_more s.first s.here.place i))
         (λ r. rw z (adds_within full limit room s.n most g o (b - from) w (at_width t b e).0 (omega arith) (encode c) (size_width t b e) _ r))
 

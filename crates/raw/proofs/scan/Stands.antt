@@ -17,7 +17,7 @@ use Rattle.literal.specs.Trace.{passes}
 use Rattle.literal.specs.Cut.{cut}
 use Rattle.literal.specs.declared.Scanned.{Scanned}
 use Rattle.literal.specs.declared.Scanned.TheVariants.{Accepted, Refused}
-use Rattle.literal.specs.Answers.{nothing, tooLong, full}
+use Rattle.literal.specs.Answers.{nothing, too_long, full}
 use Rattle.raw.specs.Raw.{as_source, hashes_of, raw_end, BodyState, body_state, body_rule, body_of}
 use Rattle.raw.specs.Step.{held_behind, cursor_behind, BodyPasses}
 use Rattle.raw.specs.declared.scan.Stand.{Stand}
@@ -103,7 +103,7 @@ module _ (t : List ℕ) (start from : Cursor) (k limit room : ℕ) where
           is_full g = sym (s.rest ∙ loops.no_room as_source start.place t k here.at state (full start) limit room n (goes as_source t k here.at state e q one s.small p o l) s.has_room grows g)
 
           module _ (g : m ≤ room) where
-            pub is_too_long : passes limit m ≡ true → Refused (tooLong start.place there (hashes_of k)) ≡ answer
+            pub is_too_long : passes limit m ≡ true → Refused (too_long start.place there (hashes_of k)) ≡ answer
             is_too_long x =
                 sym (s.rest ∙ loops.is_too_long as_source start.place t k here.at state (full start) limit room n (goes as_source t k here.at state e q one s.small p o l) s.has_room grows g x)
 

@@ -13,7 +13,7 @@ use Rattle.literal.specs.declared.Refusal.{Refusal}
 use Rattle.literal.specs.declared.Scanned.{Scanned}
 use Rattle.literal.specs.declared.Scanned.TheVariants.{Accepted, Refused}
 use Rattle.literal.proofs.Turns.{cut_ends, cut_fails, cut_long, cut_on}
-use Rattle.literal.specs.Answers.{once, tooLong}
+use Rattle.literal.specs.Answers.{once, too_long}
 use Rattle.string_turn.specs.Take.{take_of}
 use Rattle.string_turn.specs.Act.{act_of}
 use Rattle.string_turn.specs.declared.take.Scanning.{Scanning}
@@ -31,7 +31,7 @@ use Rattle.string.proofs.Readings.{over_at_once, over_then, goes_on, goes_low, g
 -- how a scan is over
 module _ (start : Position) (limit n : ℕ) {last : Last} where
   module _ {e : End} (g : last ≡ Good e) {b : Bool} (o : b ≡ passes limit n) where
-    pub over_limit : b ≡ true → {r : Scanned} → r ≡ Refused (tooLong start e.cursor e.on_record) → LimitAnswers limit n (last_of start last) r
+    pub over_limit : b ≡ true → {r : Scanned} → r ≡ Refused (too_long start e.cursor e.on_record) → LimitAnswers limit n (last_of start last) r
     unfolding last_of
     over_limit y k = record { is = λ full room. rw (g, k) (cut_long full limit room n _ _ (sym o ∙ y)) }
 
@@ -50,7 +50,7 @@ module _ (t : List ℕ) (q : ℕ) (start : Position) (limit n at : ℕ) (s : Sca
 
   module _ {c : ℕ} {here : Cursor} (k : x ≡ got.Char c here) where
     module _ {b : Bool} (o : b ≡ passes limit n) where
-      pub turn_long : b ≡ true → {r : Scanned} → r ≡ Refused (tooLong start here (once q)) → LimitAnswers limit n (rest t q start at s) r
+      pub turn_long : b ≡ true → {r : Scanned} → r ≡ Refused (too_long start here (once q)) → LimitAnswers limit n (rest t q start at s) r
       turn_long y {r} e = record { is = λ full room. by full room (act_of is_white t q start c here s) refl }
         where
           by : (full : Refusal) (room : ℕ) (a : Acted) → act_of is_white t q start c here s ≡ a → cut full limit room n (rest t q start at s) ≡ r

@@ -8,7 +8,7 @@ use Rattle.chars.specs.Cursors.{get_next_of}
 use Rattle.chars.specs.declared.cursor.Cursor.{Cursor}
 use Rattle.chars.specs.declared.cursor.Taken.TheVariants as taken
 use Rattle.identifier.specs.Identifiers.{identified_as, spanned, identify_of, class_of, text_between}
-use Rattle.identifier.proofs.scan.Answers.{nothing-there, begins-here, first-within}
+use Rattle.identifier.proofs.scan.Answers.{nothing_there, begins_here, first_within}
 use Rattle.identifier.proofs.scan.identify.Goals as goal
 use Rattle.identifier.proofs.scan.identify.Goals.{After-end_of-end}
 
@@ -34,17 +34,17 @@ module _ (k : After-end_of-end) where
 
   room : (start.at ≤ end.at) × (end.at ≤ length text)
   room =
-      let f = first-within text book start got in
+      let f = first_within text book start got in
       (omega (arith, f.0, k.end_of-end.ensures.at_le_at.0), k.end_of-end.ensures.at_le_at.1 f.1)
 
   -- the answer, by the class of what stands between
   whole : identify_of text book start ≡ identified_as start end (class_of book (text_between text start end))
   unfolding spanned
-  whole = begins-here text book start got ∙ ap (spanned text book start) (sym k.end_of-end.ensures.value)
+  whole = begins_here text book start got ∙ ap (spanned text book start) (sym k.end_of-end.ensures.value)
 
 pub returns-in_default : goal.returns-in_default
 returns-in_default c =
-    rw c.at.ensures (sym (nothing-there _ _ _ (sym c.get_next.ensures ∙ c.in_default.is)))
+    rw c.at.ensures (sym (nothing_there _ _ _ (sym c.get_next.ensures ∙ c.in_default.is)))
 
 pub slice_bounds-class_of-count : goal.slice_bounds-class_of-count
 slice_bounds-class_of-count c = omega (arith, room c)
