@@ -1,31 +1,32 @@
--- Turns of the loop that looks for a byte that is not ASCII. Assumes nothing.
-use Prim.Native.Nat.{ℕ, ◌+◌, ◌≤◌, ◌<◌}
-use mathlib.Core.Bool.{true, false}
-use mathlib.Core.List.{List}
-use mathlib.Core.Path.{◌≡◌, refl, sym, ◌∙◌}
-use lib.ListN.{length, get_or, drop}
+-- The library's test for ASCII is the definition's. Assumes nothing.
+use Prim.Native.Nat.{ℕ, zero, suc, ◌<◌, ◌≤◌}
+use native.Mathlib.Omega.{arith}
+use mathlib.Core.Bool.{Bool, true, false}
+use mathlib.Core.List.{List, [], ◌∷◌}
+use mathlib.Core.Path.{◌≡◌, refl, sym}
+use lib.Dec.{leb}
+use lib.ListN.{get_or}
 use borrow.Author.Tests.{le-leb, lt-leb}
-use Rattle.basis.proofs.Bytes.{here, past}
+use Rattle.std.specs.Bool.{MatchBool}
+use Rattle.std.specs.Str.{IsAscii, IsNotAscii}
+use Rattle.basis.specs.Pick.{both}
 use Rattle.book.specs.Book.{ascii}
 
--- the first i bytes of the text are ASCII
-pub record Plain (t : List ℕ) (i : ℕ) : Type 0 where
-  pub rest : ascii t ≡ ascii (drop i t)
+all_plain : (t : List ℕ) → IsAscii t → ascii t ≡ true
+unfolding ascii
+all_plain [] h = refl
+all_plain (b ∷ bs) h = let l : b < 128 = h 0 in rw (le-leb b 0x7F (omega arith)) (all_plain bs (λ i. h (suc i)))
 
-module _ (t : List ℕ) where
-  pub plain_start : Plain t 0
-  plain_start = record { rest = refl }
+not_plain : (t : List ℕ) (i : ℕ) → 128 ≤ get_or t i 0 → ascii t ≡ false
+unfolding ascii
+not_plain [] i h = absurd (omega arith)
+not_plain (b ∷ bs) zero h = rw (lt-leb b 0x7F (omega arith))
+not_plain (b ∷ bs) (suc i) h = go (leb b 0x7F) (not_plain bs i h)
+  where
+    go : (t : Bool) → ascii bs ≡ false → both t (ascii bs) ≡ false
+    go true p = p
+    go false p = refl
 
-  module _ (i : ℕ) (p : Plain t i) where
-    pub plain_end : length t ≤ i → true ≡ ascii t
-    unfolding ascii
-    plain_end h = sym (p.rest ∙ rw (past t i h))
-
-    module _ (h : i < length t) where
-      pub not_plain : 0x7F < get_or t i 0 → false ≡ ascii t
-      unfolding ascii
-      not_plain g = sym (p.rest ∙ rw (here t i h, lt-leb _ _ g))
-
-      pub plain_next : get_or t i 0 ≤ 0x7F → Plain t (i + 1)
-      unfolding ascii
-      plain_next g = record { rest = p.rest ∙ rw (here t i h, le-leb _ _ g) }
+pub is_plain : (t : List ℕ) (r : Bool) → MatchBool r (IsAscii t) (IsNotAscii t) → r ≡ ascii t
+is_plain t true h = sym (all_plain t h)
+is_plain t false h = sym (not_plain t h.0 h.1)

@@ -1,17 +1,16 @@
 -- Turns of the loops over a book's words. Assumes nothing.
-use Prim.Native.Nat.{ℕ, ◌+◌, ◌-◌, ◌*◌, ◌≤◌, ◌<◌}
+use Prim.Native.Nat.{ℕ, zero, suc, ◌+◌, ◌-◌, ◌*◌, ◌≤◌, ◌<◌}
 use native.Mathlib.Omega.{arith}
-use mathlib.Core.Bool.{Bool, true, false}
-use mathlib.Core.List.{List, ◌∷◌}
-use mathlib.Core.Path.{◌≡◌, sym, ap, ◌∙◌}
-use mathlib.Core.Logic.{⊎_elim}
+use mathlib.Core.Bool.{Bool, true, false, ◌&&◌}
+use mathlib.Core.List.{List}
+use mathlib.Core.Path.{◌≡◌, refl, sym, ◌∙◌}
 use lib.Dec.{eqb}
 use lib.ListN.{length}
 use borrow.Author.Tests.{eq-eqb, ne_eqb}
-use Rattle.basis.proofs.Bounds.{split}
+use Rattle.std.specs.List.{list_all, range_with_len}
 use Rattle.book.specs.Order.{compared, below}
-use Rattle.book.specs.declared.order.Order.{Order}
-use Rattle.book.specs.declared.order.Order.TheVariants.{Less, Equal, Greater}
+use Rattle.std.specs.Ordering.{is_lt}
+use Rattle.basis.specs.Pick.{both}
 use Rattle.book.specs.Contents.{word_count, bodies, start_at, size_at, word_at, words_from, words}
 use Rattle.book.proofs.contents.Words.{from_here, from_past, from_start}
 use Rattle.book.specs.Book.{runs_on, fit, all_fit, below_next, rising}
@@ -19,13 +18,13 @@ use Rattle.book.specs.Book.{runs_on, fit, all_fit, below_next, rising}
 -- the first k of n words run on, up to the index at
 pub record Running (book : List ℕ) (n at k : ℕ) : Type 0 where
   pub all : n ≡ word_count book
-  pub some : n ≤ 512
+  pub some : n < 65536
   pub within : k ≤ n
   pub small : at ≤ 2 + 4 * n + 255 * k
   pub rest : runs_on (length book) (bodies book) (words book) ≡ runs_on (length book) at (words_from book k (n - k))
 
 module _ (book : List ℕ) (n : ℕ) where
-  pub running_start : n ≡ word_count book → n ≤ 512 → Running book n (2 + 4 * n) 0
+  pub running_start : n ≡ word_count book → n < 65536 → Running book n (2 + 4 * n) 0
   running_start e h = record {
     all = e;
     some = h;
@@ -54,61 +53,35 @@ module _ (book : List ℕ) (n : ℕ) where
         rest = r.rest ∙ rw (from_here book n k h, ← e, eq-eqb _ _ g, ← d);
       }
 
--- the first k of n words are fit
-pub record Fitting (book : List ℕ) (n k : ℕ) : Type 0 where
-  pub all : n ≡ word_count book
-  pub within : k ≤ n
-  pub rest : all_fit (words book) ≡ all_fit (words_from book k (n - k))
+-- two tests and their lists' joined
+ands : (t : Bool) {a b : Bool} → a ≡ b → (t && a) ≡ both t b
+ands true e = e
+ands false e = refl
 
-module _ (book : List ℕ) (n : ℕ) where
-  pub fitting_start : n ≡ word_count book → Fitting book n 0
-  fitting_start e = record { all = e; within = omega arith; rest = ap all_fit (from_start book e) }
+-- the words are fit if each of the book's first n is
+fits_from : (book : List ℕ) (k n : ℕ) → list_all (λ i. fit (word_at book i)) (range_with_len k n) ≡ all_fit (words_from book k n)
+unfolding all_fit words_from
+fits_from book k zero = refl
+fits_from book k (suc n) = ands (fit (word_at book k)) (fits_from book (k + 1) n)
 
-  module _ (k : ℕ) (r : Fitting book n k) where
-    pub fitting_end : n ≤ k → true ≡ all_fit (words book)
-    unfolding all_fit
-    fitting_end h = sym (r.rest ∙ rw (from_past book n k h))
+pub each_fits : (book : List ℕ) (n : ℕ) → n ≡ word_count book → list_all (λ i. fit (word_at book i)) (range_with_len 0 n) ≡ all_fit (words book)
+unfolding words
+each_fits book n e = rw (← e) (fits_from book 0 n)
 
-    module _ (h : k < n) (t : Bool) (e : t ≡ fit (word_at book k)) where
-      pub not_fit : t ≡ false → false ≡ all_fit (words book)
-      unfolding all_fit
-      not_fit g = sym (r.rest ∙ rw (from_here book n k h, ← e, g))
+-- the words rise if each but the first is above the one before it
+abbrev pub is_above : List ℕ → ℕ → Bool
+is_above book i = is_lt (compared (word_at book (i - 1)).text (word_at book i).text)
 
-      pub fitting_next : t ≡ true → Fitting book n (k + 1)
-      unfolding all_fit
-      fitting_next g = record { all = r.all; within = omega arith; rest = r.rest ∙ rw (from_here book n k h, ← e, g) }
+rises_from : (book : List ℕ) (k n : ℕ) → list_all (is_above book) (range_with_len (k + 1) n) ≡ rising (words_from book k (suc n))
+unfolding rising below_next below words_from
+rises_from book k zero = refl
+rises_from book k (suc n) = let q : k + 1 - 1 ≡ k = omega arith in rw q (ands (is_lt (compared (word_at book k).text (word_at book (k + 1)).text)) (rises_from book (k + 1) n))
 
--- the first k + 1 of n words rise
-pub record Mounting (book : List ℕ) (n k : ℕ) : Type 0 where
-  pub all : n ≡ word_count book
-  pub within : k ≤ n
-  pub rest : rising (words book) ≡ rising (words_from book k (n - k))
+each_from : (book : List ℕ) (n : ℕ) → list_all (is_above book) (range_with_len 1 (n - 1)) ≡ rising (words_from book 0 n)
+unfolding rising words_from
+each_from book zero = refl
+each_from book (suc m) = let q : suc m - 1 ≡ m = omega arith in rw q (rises_from book 0 m)
 
-module _ (book : List ℕ) (n : ℕ) where
-  pub mounting_start : n ≡ word_count book → Mounting book n 0
-  mounting_start e = record { all = e; within = omega arith; rest = ap rising (from_start book e) }
-
-  module _ (k : ℕ) (r : Mounting book n k) where
-    pub mounting_end : n ≤ k + 1 → true ≡ rising (words book)
-    unfolding rising below_next
-    mounting_end h = sym (r.rest ∙ ⊎_elim (λ l. rw (from_here book n k l, from_past book n (k + 1) h)) (λ l. rw (from_past book n k l)) (split k n))
-
-    module _ (h : k + 1 < n) (v w : List ℕ) (d : v ≡ (word_at book k).text) (e : w ≡ (word_at book (k + 1)).text) (o : Order) (f : o ≡ compared v w) where
-      pub equal_words : o ≡ Equal → false ≡ rising (words book)
-      unfolding rising below_next below
-      equal_words g = sym (r.rest ∙ rw (from_here book n k (omega arith), from_here book n (k + 1) h, ← d, ← e, ← f, g))
-
-      pub falling_words : o ≡ Greater → false ≡ rising (words book)
-      unfolding rising below_next below
-      falling_words g = sym (r.rest ∙ rw (from_here book n k (omega arith), from_here book n (k + 1) h, ← d, ← e, ← f, g))
-
-      pub mounting_next : o ≡ Less → Mounting book n (k + 1)
-      unfolding rising below_next below
-      mounting_next g = record {
-        all = r.all;
-        within = omega arith;
-        rest = r.rest ∙ ap rising (from_here book n k (omega arith)) ∙ up (from_here book n (k + 1) h);
-      }
-        where
-          up : words_from book (k + 1) (n - (k + 1)) ≡ word_at book (k + 1) ∷ words_from book (k + 1 + 1) (n - (k + 1 + 1)) → rising (word_at book k ∷ words_from book (k + 1) (n - (k + 1))) ≡ rising (words_from book (k + 1) (n - (k + 1)))
-          up p = rw (p, ← d, ← e, ← f, g)
+pub each_rises : (book : List ℕ) (n : ℕ) → n ≡ word_count book → list_all (is_above book) (range_with_len 1 (n - 1)) ≡ rising (words book)
+unfolding words
+each_rises book n e = rw (← e) (each_from book n)

@@ -1,10 +1,8 @@
 -- The contents of a word book (document 01, Word book): a book as a list of words.
-use Rattle.std.specs.Prelude.{ℕ, zero, suc, ◌+◌, ◌*◌, Bool, List, [], ◌∷◌, leb, length, get_or, take, drop}
+use Rattle.std.specs.Prelude.{ℕ, zero, suc, ◌+◌, ◌*◌, Bool, List, [], ◌∷◌, Option, None, Some, leb, length, get_or, take, drop}
 use Rattle.basis.specs.Types.{Text, Bytes, Offset}
 use Rattle.basis.specs.Pick.{pick}
 use Rattle.book.specs.declared.contents.Row.{Row}
-use Rattle.book.specs.declared.contents.Rows.{Rows}
-use Rattle.book.specs.declared.contents.Rows.TheVariants.{Counted, Short}
 
 -- a word of a book: where its body starts in the book, its length, its flags, and the body
 pub record BookWord : Type 0 where
@@ -59,9 +57,9 @@ words book = words_from book 0 (word_count book)
 unfoldable pub enough : Bytes → Bool
 enough book = leb (bodies book) (length book)
 
--- how many rows the contents have
-unfoldable pub rows_of : Bytes → Rows
-rows_of book = pick (enough book) (Counted (word_count book)) Short
+-- how many rows the contents have, or none where the book is too short for them
+unfoldable pub rows_of : Bytes → Option ℕ
+rows_of book = pick (enough book) (Some (word_count book)) None
 
 -- word k's row
 unfoldable pub row_of : Bytes → ℕ → Row

@@ -1,23 +1,29 @@
 -- Worked examples of the lookups, in the books of the check's examples. Assumes nothing.
-use mathlib.Core.Bool.{true, false}
+use mathlib.Core.Bool.{Bool, true, false}
 use mathlib.Core.List.{[], ◌∷◌, map}
 use mathlib.Core.Path.{◌≡◌, refl}
+use Rattle.std.specs.Prelude.{None, Some}
+use Rattle.book_lookup.specs.declared.Reserved.{Reserved}
 use Rattle.basis.specs.Words.{word}
 use Rattle.book.specs.Order.{same}
 use Rattle.book.proofs.Examples.{book_computes, house, office, one}
-use Rattle.book_lookup.specs.Lookup.{first_hit, is_a, is_b, flags_answer, hit_answer, looked_up, reserved_of, either_book, holder_of, held_part, held_place, found_part, found_place}
+use Rattle.book_lookup.specs.Lookup.{first_hit, is_a, is_b, flags_answer, hit_answer, reserved_of, either_book, holder_of, held_part, held_place, found_part, found_place}
+
+-- a, and a and b
+abbrev says : Bool → Bool → Reserved
+says a ab = record { a = a; ab = ab }
 
 -- what the two books answer
-pub house_says : map (reserved_of house) (word "_1" ∷ word "goto" ∷ word "go" ∷ word "is" ∷ [] ∷ []) ≡ looked_up true true false ∷ looked_up true true true ∷ looked_up false false false ∷ looked_up false false false ∷ looked_up false false false ∷ []
+pub house_says : map (reserved_of house) (word "_1" ∷ word "goto" ∷ word "go" ∷ word "is" ∷ [] ∷ []) ≡ Some (says true false) ∷ Some (says true true) ∷ None ∷ None ∷ None ∷ []
 unfolding book_computes same first_hit is_a is_b flags_answer hit_answer reserved_of
 house_says = refl
 
-pub office_says : map (reserved_of office) (word "goto" ∷ word "is" ∷ word "_1" ∷ []) ≡ looked_up true false false ∷ looked_up true false false ∷ looked_up false false false ∷ []
+pub office_says : map (reserved_of office) (word "goto" ∷ word "is" ∷ word "_1" ∷ []) ≡ Some (says false false) ∷ Some (says false false) ∷ None ∷ []
 unfolding book_computes same first_hit is_a is_b flags_answer hit_answer reserved_of
 office_says = refl
 
 -- a bad book finds nothing, though the word stands in it
-pub bad_says : reserved_of (one 1 0 (word "ab")) (word "a") ≡ looked_up false false false
+pub bad_says : reserved_of (one 1 0 (word "ab")) (word "a") ≡ None
 unfolding book_computes same first_hit is_a is_b flags_answer hit_answer reserved_of
 bad_says = refl
 

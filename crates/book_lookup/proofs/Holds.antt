@@ -11,16 +11,17 @@ use borrow.Author.Tests.{ltb-true, ltb-false}
 use Rattle.basis.specs.Pick.{pick}
 use Rattle.basis.proofs.Bounds.{split}
 use Rattle.basis.proofs.Cases.{pick_cases, not_both, both_left, both_right}
-use Rattle.book.specs.Order.{compared, is_equal, same}
+use Rattle.book.specs.Order.{compared, same}
 use Rattle.book.specs.Contents.{BookWord, word_count, bodies, word_at, words_from, words, enough}
 use Rattle.book.specs.Book.{few, runs_on, all_fit, rising, good}
-use Rattle.book_lookup.specs.Lookup.{Stands, Hit, hit, none, first_hit, flags_answer, hit_answer, not_found, reserved_of}
+use Rattle.book_lookup.specs.Lookup.{Stands, first_hit, flags_answer, hit_answer, reserved_of}
 use Rattle.book_lookup.specs.Seek.{middle, narrowed, sought_in, sought_of}
 use Rattle.book_lookup.specs.Halving.{sought_hit, halved_of}
-use Rattle.book.specs.declared.order.Order.{Order}
-use Rattle.book.specs.declared.order.Order.TheVariants.{Less, Equal, Greater}
-use Rattle.book_lookup.specs.declared.seek.SoughtWord.{SoughtWord}
-use Rattle.book_lookup.specs.declared.seek.SoughtWord.TheVariants.{At, Nothing}
+use Rattle.std.specs.declared.cmp.Ordering.{Ordering}
+use Rattle.std.specs.declared.cmp.Ordering.TheVariants.{Less, Equal, Greater}
+use Rattle.std.specs.Ordering.{is_eq}
+use Rattle.std.specs.Option.{is_some}
+use Rattle.std.specs.Prelude.{Option, None, Some}
 use Rattle.book.proofs.order.Orders.{not_less_greater, not_less_equal, not_greater_equal, equal_self, equal_is, less_less}
 use Rattle.book_lookup.proofs.Sorted.{text, sorted}
 
@@ -30,18 +31,18 @@ module _ (book w : List ℕ) where
   Other i = compared (text book i) w ≡ Equal → ⊥
 
   -- what a search from lo up to hi should answer
-  abbrev Right : ℕ → ℕ → SoughtWord → Type 0
-  Right lo hi (At k) = (lo ≤ k) × (k < hi) × (compared (text book k) w ≡ Equal)
-  Right lo hi Nothing = (i : ℕ) → lo ≤ i → i < hi → Other i
+  abbrev Right : ℕ → ℕ → Option ℕ → Type 0
+  Right lo hi (Some k) = (lo ≤ k) × (k < hi) × (compared (text book k) w ≡ Equal)
+  Right lo hi None = (i : ℕ) → lo ≤ i → i < hi → Other i
 
   -- a search of a part, where the word is not in the rest
-  right_before : (lo mid hi : ℕ) (f : SoughtWord) → mid ≤ hi → Right lo mid f → ((i : ℕ) → mid ≤ i → i < hi → Other i) → Right lo hi f
-  right_before lo mid hi (At k) h r o = (r.0, omega (arith, r.1), r.2)
-  right_before lo mid hi Nothing h r o = λ i l g. ⊎_elim (λ a. r i l a) (λ a. o i a g) (split i mid)
+  right_before : (lo mid hi : ℕ) (f : Option ℕ) → mid ≤ hi → Right lo mid f → ((i : ℕ) → mid ≤ i → i < hi → Other i) → Right lo hi f
+  right_before lo mid hi (Some k) h r o = (r.0, omega (arith, r.1), r.2)
+  right_before lo mid hi None h r o = λ i l g. ⊎_elim (λ a. r i l a) (λ a. o i a g) (split i mid)
 
-  right_behind : (lo mid hi : ℕ) (f : SoughtWord) → lo ≤ mid → Right mid hi f → ((i : ℕ) → lo ≤ i → i < mid → Other i) → Right lo hi f
-  right_behind lo mid hi (At k) h r o = (omega (arith, r.0), r.1, r.2)
-  right_behind lo mid hi Nothing h r o = λ i l g. ⊎_elim (λ a. o i l a) (λ a. r i a g) (split i mid)
+  right_behind : (lo mid hi : ℕ) (f : Option ℕ) → lo ≤ mid → Right mid hi f → ((i : ℕ) → lo ≤ i → i < mid → Other i) → Right lo hi f
+  right_behind lo mid hi (Some k) h r o = (omega (arith, r.0), r.1, r.2)
+  right_behind lo mid hi None h r o = λ i l g. ⊎_elim (λ a. o i l a) (λ a. r i a g) (split i mid)
 
   module _ (n : ℕ) (e : rising (words_from book 0 n) ≡ true) where
     -- where the middle is below w, so is all before it; where it is above w, so is all behind it
@@ -59,7 +60,7 @@ module _ (book w : List ℕ) where
         (λ a. let q : i ≡ mid = omega arith in not_greater_equal c (rw q at p))
         (split mid i)
 
-    in_turn : (lo mid hi : ℕ) (on : ℕ → ℕ → SoughtWord) (o : Order) → compared (text book mid) w ≡ o → lo ≤ mid → mid < hi → hi ≤ n
+    in_turn : (lo mid hi : ℕ) (on : ℕ → ℕ → Option ℕ) (o : Ordering) → compared (text book mid) w ≡ o → lo ≤ mid → mid < hi → hi ≤ n
         → Right (mid + 1) hi (on (mid + 1) hi) → Right lo mid (on lo mid) → Right lo hi (narrowed o lo mid hi on)
     in_turn lo mid hi on Less c l h m r s = right_behind lo (mid + 1) hi (on (mid + 1) hi) (omega arith) r (λ i a g. below_middle mid (omega arith) c i g)
     in_turn lo mid hi on Equal c l h m r s = (l, h, c)
@@ -77,7 +78,7 @@ module _ (book w : List ℕ) where
         (λ t. let l : hi ≤ lo = ltb-false lo hi t in λ i a g. absurd (omega arith))
 
 -- a test for Equal that fails
-is_other : (o : Order) → (o ≡ Equal → ⊥) → is_equal o ≡ false
+is_other : (o : Ordering) → (o ≡ Equal → ⊥) → is_eq o ≡ false
 is_other Less h = refl
 is_other Equal h = absurd (h refl)
 is_other Greater h = refl
@@ -92,7 +93,7 @@ module _ (book w : List ℕ) where
   is_same i h = rw h
 
   -- the first of n words from k on that is w, where that is word j
-  first_hit_lem : (k n j : ℕ) → k ≤ j → j < k + n → compared (text book j) w ≡ Equal → ((i : ℕ) → k ≤ i → i < j → Other book w i) → first_hit w (words_from book k n) ≡ hit (word_at book j)
+  first_hit_lem : (k n j : ℕ) → k ≤ j → j < k + n → compared (text book j) w ≡ Equal → ((i : ℕ) → k ≤ i → i < j → Other book w i) → first_hit w (words_from book k n) ≡ Some (word_at book j)
   unfolding first_hit words_from
   first_hit_lem k zero j l h c o = absurd (omega arith)
   first_hit_lem k (suc n) j l h c o =
@@ -102,23 +103,23 @@ module _ (book w : List ℕ) where
       (split k j)
 
   -- and where none is
-  first_none : (k n : ℕ) → ((i : ℕ) → k ≤ i → i < k + n → Other book w i) → first_hit w (words_from book k n) ≡ none
+  first_none : (k n : ℕ) → ((i : ℕ) → k ≤ i → i < k + n → Other book w i) → first_hit w (words_from book k n) ≡ None
   unfolding first_hit words_from
   first_none k zero o = refl
   first_none k (suc n) o = rw (not_same k (o k (omega arith) (omega arith))) (first_none (k + 1) n (λ i a h. o i (omega arith) (omega arith)))
 
   -- so a right search answers the first
-  first_right : (n : ℕ) → rising (words_from book 0 n) ≡ true → (f : SoughtWord) → Right book w 0 n f → first_hit w (words_from book 0 n) ≡ sought_hit book f
+  first_right : (n : ℕ) → rising (words_from book 0 n) ≡ true → (f : Option ℕ) → Right book w 0 n f → first_hit w (words_from book 0 n) ≡ sought_hit book f
   unfolding sought_hit
-  first_right n e (At k) r = first_hit_lem 0 n k (omega arith) (omega (arith, r.1)) r.2 earlier
+  first_right n e (Some k) r = first_hit_lem 0 n k (omega arith) (omega (arith, r.1)) r.2 earlier
     where
       earlier : (i : ℕ) → 0 ≤ i → i < k → Other book w i
       earlier i l h p = not_less_equal (sorted book n e i k h r.1) (rw (equal_is (text book i) w p, equal_is (text book k) w r.2) (equal_self w))
-  first_right n e Nothing r = first_none 0 n (λ i a h. r i a (omega arith))
+  first_right n e None r = first_none 0 n (λ i a h. r i a (omega arith))
 
 -- what a good book is, one by one
 module _ (book : List ℕ) (g : good book ≡ true) where
-  good_enough : enough book ≡ true
+  pub good_enough : enough book ≡ true
   unfolding good
   good_enough = both_left (enough book) _ g
 
@@ -144,12 +145,12 @@ module _ (book : List ℕ) (g : good book ≡ true) where
   halved_whole = fun_ext halved
 
   -- each word of a good book is found with its own flags
-  pub own_answer : (k : ℕ) → k < word_count book → reserved_of book (text book k) ≡ flags_answer (word_at book k).flags
+  pub own_answer : (k : ℕ) → k < word_count book → reserved_of book (text book k) ≡ Some (flags_answer (word_at book k).flags)
   unfolding reserved_of words hit_answer
   own_answer k h = rw (g, first_hit_lem book (text book k) 0 (word_count book) k (omega arith) (omega arith) (equal_self (text book k)) (λ i l a. not_less_equal (sorted book (word_count book) good_rising i k a h)))
 
 -- texts that are the same are one
-is_equal_lem : (o : Order) → is_equal o ≡ true → o ≡ Equal
+is_equal_lem : (o : Ordering) → is_eq o ≡ true → o ≡ Equal
 is_equal_lem Less e = absurd (let z : ◌≡◌ {A = ℕ} 0 1 = cc in omega arith)
 is_equal_lem Equal e = refl
 is_equal_lem Greater e = absurd (let z : ◌≡◌ {A = ℕ} 0 1 = cc in omega arith)
@@ -164,39 +165,29 @@ same_own v w e = rw (e, equal_self w)
 
 -- FOUND EXACTLY IF THE BOOK HOLDS IT
 module _ (w : List ℕ) where
-  -- something was found
-  abbrev Some : Hit → Type 0
-  Some (hit e) = Unit {0}
-  Some none = ⊥
-
-  stands_some : (es : List BookWord) → Stands w es → Some (first_hit w es)
+  stands_some : (es : List BookWord) → Stands w es → is_some (first_hit w es) ≡ true
   unfolding Stands first_hit
-  stands_some [] s = s
-  stands_some (e ∷ es) s = pick_cases Some (same e.text w) (hit e) (first_hit w es) (λ t. tt) (λ t. ⊎_elim (λ q. not_both (same_own e.text w q) t) (λ r. stands_some es r) s)
+  stands_some [] s = absurd s
+  stands_some (e ∷ es) s = pick_cases (λ h. is_some h ≡ true) (same e.text w) (Some e) (first_hit w es) (λ t. refl) (λ t. ⊎_elim (λ q. not_both (same_own e.text w q) t) (λ r. stands_some es r) s)
 
-  some_stands : (es : List BookWord) → Some (first_hit w es) → Stands w es
+  some_stands : (es : List BookWord) → is_some (first_hit w es) ≡ true → Stands w es
   unfolding Stands first_hit
-  some_stands [] s = s
+  some_stands [] s = not_both s refl
   some_stands (e ∷ es) s = go (same e.text w) refl s (some_stands es)
     where
-      go : (t : Bool) → same e.text w ≡ t → Some (pick t (hit e) (first_hit w es)) → (Some (first_hit w es) → Stands w es) → (e.text ≡ w) ⊎ Stands w es
+      go : (t : Bool) → same e.text w ≡ t → is_some (pick t (Some e) (first_hit w es)) ≡ true → (is_some (first_hit w es) ≡ true → Stands w es) → (e.text ≡ w) ⊎ Stands w es
       go true q s r = inl (same_is e.text w q)
       go false q s r = inr (r s)
 
-  found_some : (h : Hit) → (hit_answer h).found ≡ true → Some h
-  unfolding hit_answer flags_answer
-  found_some (hit e) p = tt
-  found_some none p = not_both p refl
+  answered : (h : Option BookWord) → is_some (hit_answer h) ≡ is_some h
+  unfolding hit_answer
+  answered (Some e) = refl
+  answered None = refl
 
-  some_found : (h : Hit) → Some h → (hit_answer h).found ≡ true
-  unfolding hit_answer flags_answer
-  some_found (hit e) p = refl
-  some_found none p = absurd p
-
-pub found_exactly : (book w : List ℕ) → ((reserved_of book w).found ≡ true) ↔ ((good book ≡ true) × Stands w (words book))
+pub found_exactly : (book w : List ℕ) → (is_some (reserved_of book w) ≡ true) ↔ ((good book ≡ true) × Stands w (words book))
 unfolding reserved_of
-found_exactly book w = (go (good book) refl, λ h. rw h.0 (some_found w (first_hit w (words book)) (stands_some w (words book) h.1)))
+found_exactly book w = (go (good book) refl, λ h. rw (h.0, answered w (first_hit w (words book))) (stands_some w (words book) h.1))
   where
-    go : (t : Bool) → good book ≡ t → (pick t (hit_answer (first_hit w (words book))) not_found).found ≡ true → (good book ≡ true) × Stands w (words book)
-    go true g p = (g, some_stands w (words book) (found_some w (first_hit w (words book)) p))
+    go : (t : Bool) → good book ≡ t → is_some (pick t (hit_answer (first_hit w (words book))) None) ≡ true → (good book ≡ true) × Stands w (words book)
+    go true g p = (g, some_stands w (words book) (rw (answered w (first_hit w (words book))) at p))
     go false g p = not_both p refl

@@ -1,104 +1,62 @@
 -- What a search found lies in its book, and which part of which book the lookup over two books hands back. Assumes nothing.
-use Prim.Native.Nat.{ℕ, zero, suc, ◌+◌, ◌-◌, ◌/◌, ◌≤◌, ◌<◌}
+use Prim.Native.Nat.{ℕ, zero, suc, ◌+◌, ◌≤◌, ◌<◌}
 use native.Mathlib.Omega.{arith}
 use native.Mathlib.Nat.{zero-add}
-use mathlib.Core.Bool.{Bool, true, false, not}
+use mathlib.Core.Bool.{Bool, true, false}
 use mathlib.Core.List.{List, []}
-use mathlib.Core.Path.{◌≡◌, sym, ◌∙◌}
-use mathlib.Core.Logic.{⊎_elim}
-use lib.Dec.{ltb, eqb}
+use mathlib.Core.Path.{◌≡◌, refl, ◌∙◌}
+use mathlib.Core.Logic.{◌⊎◌, ⊎_elim}
+use lib.Dec.{eqb}
 use lib.ListN.{length}
-use borrow.Author.Tests.{ltb-true, leb-true, eqb-true, not-true, not-false}
+use borrow.Author.Tests.{eqb-true}
 use Rattle.basis.specs.Pick.{both}
 use Rattle.basis.proofs.Bounds.{split}
-use Rattle.basis.proofs.Cases.{pick_cases, both_left, both_right}
-use Rattle.book.specs.Order.{compared}
-use Rattle.book.specs.Contents.{word_count, bodies, start_at, size_at, word_at, words_from, words, enough}
+use Rattle.basis.proofs.Cases.{both_left, both_right}
+use Rattle.book.specs.Contents.{word_count, bodies, start_at, size_at, word_at, words_from, words, rows_of}
+use Rattle.book.proofs.contents.Parts.{is_short}
 use Rattle.book.specs.Book.{runs_on, good, check_of}
-use Rattle.book_lookup.specs.Lookup.{in_house, in_office, hit_answer, flags_answer, not_found, reserved_of, either_book, holder_of, held_part, held_place, found_part, found_place}
-use Rattle.book_lookup.specs.Seek.{middle, narrowed, sought_in, sought_of}
+use Rattle.book_lookup.specs.Lookup.{in_house, in_office, hit_answer, flags_answer, reserved_of, either_book, holder_of, held_part, held_place, found_part, found_place}
+use Rattle.book_lookup.specs.Seek.{sought_of}
 use Rattle.book_lookup.specs.Halving.{sought_hit, halved_of}
-use Rattle.book.specs.declared.order.Order.{Order}
-use Rattle.book.specs.declared.order.Order.TheVariants.{Less, Equal, Greater}
-use Rattle.book_lookup.specs.declared.seek.SoughtWord.{SoughtWord}
-use Rattle.book_lookup.specs.declared.seek.SoughtWord.TheVariants.{At, Nothing}
+use Rattle.std.specs.Prelude.{Option, None, Some}
+use Rattle.std.specs.Option.{is_some, option_map}
 use Rattle.book_lookup.specs.declared.Reserved.{Reserved}
-use Rattle.book.proofs.Checks.{check_good, check_bad, check_is}
-use Rattle.book_lookup.proofs.Holds.{good_runs, halved_first, halved}
+use Rattle.book.proofs.Checks.{check_good, check_bad}
+use Rattle.book_lookup.proofs.Holds.{good_enough, good_runs, halved_first, halved}
 
--- a place below n, if any
-abbrev Below : ℕ → SoughtWord → Type 0
-Below n (At k) = k < n
-Below n Nothing = Unit {0}
+-- the answer with no check
+module _ (book w : List ℕ) where
+  pub says_none : None ≡ rows_of book → None ≡ halved_of book w
+  unfolding halved_of sought_of sought_hit hit_answer
+  says_none p = rw (is_short book p)
 
-module _ (book w : List ℕ) (n : ℕ) where
-  below_turn : (lo mid hi : ℕ) (on : ℕ → ℕ → SoughtWord) (o : Order) → mid < n → Below n (on (mid + 1) hi) → Below n (on lo mid) → Below n (narrowed o lo mid hi on)
-  below_turn lo mid hi on Less h r s = r
-  below_turn lo mid hi on Equal h r s = h
-  below_turn lo mid hi on Greater h r s = s
+  module _ (f : Option ℕ) (e : f ≡ sought_of book w) where
+    pub says_nothing : f ≡ None → None ≡ halved_of book w
+    unfolding halved_of sought_hit hit_answer
+    says_nothing p = rw (← e, p)
 
-  in_below : (f lo hi : ℕ) → hi ≤ n → Below n (sought_in f book w lo hi)
-  unfolding sought_in middle
-  in_below zero lo hi m = tt
-  in_below (suc f) lo hi m =
-      pick_cases (Below n) (ltb lo hi) _ _
-      (λ t. let l : lo < hi = ltb-true lo hi t in
-      below_turn lo (lo + (hi - lo) / 2) hi (λ a b. sought_in f book w a b) (compared (word_at book (lo + (hi - lo) / 2)).text w) (omega arith)
-      (in_below f (lo + (hi - lo) / 2 + 1) hi m)
-      (in_below f lo (lo + (hi - lo) / 2) (omega arith)))
-      (λ t. tt)
-
--- a word that was found has a row in the book
-abbrev Rowed : List ℕ → SoughtWord → Type 0
-Rowed book (At k) = (k < word_count book) × (bodies book ≤ length book)
-Rowed book Nothing = Unit {0}
-
-rowed : (book : List ℕ) (f : SoughtWord) → bodies book ≤ length book → Below (word_count book) f → Rowed book f
-rowed book (At k) h b = (b, h)
-rowed book Nothing h b = tt
-
-sought_rowed : (book w : List ℕ) → Rowed book (sought_of book w)
-unfolding sought_of enough
-sought_rowed book w =
-    pick_cases (Rowed book) (enough book) _ _
-    (λ t. rowed book (sought_in (word_count book) book w 0 (word_count book)) (leb-true (bodies book) (length book) t) (in_below book w (word_count book) (word_count book) 0 (word_count book) (omega arith)))
-    (λ t. tt)
-
-module _ (book w : List ℕ) (f : SoughtWord) (e : f ≡ sought_of book w) where
-  has_row : (k : ℕ) → f ≡ At k → (k < word_count book) × (bodies book ≤ length book)
-  has_row k p = rw (sym e ∙ p) at (sought_rowed book w)
-
-  pub row_counted : (k : ℕ) → f ≡ At k → k < word_count book
-  row_counted k p = (has_row k p).0
-
-  pub row_written : (k : ℕ) → f ≡ At k → bodies book ≤ length book
-  row_written k p = (has_row k p).1
-
-  -- the answer with no check
-  pub says_nothing : f ≡ Nothing → not_found ≡ halved_of book w
-  unfolding halved_of sought_hit hit_answer
-  says_nothing p = rw (← e, p)
-
-  pub says_flags : (k n : ℕ) (r : Reserved) → f ≡ At k → n ≡ (word_at book k).flags → r ≡ flags_answer n → r ≡ halved_of book w
-  unfolding halved_of sought_hit hit_answer
-  says_flags k n r p q a = rw (← e, p, ← q, a)
+    pub says_flags : (k n : ℕ) (r : Reserved) → f ≡ Some k → n ≡ (word_at book k).flags → r ≡ flags_answer n → Some r ≡ halved_of book w
+    unfolding halved_of sought_hit hit_answer
+    says_flags k n r p q a = rw (← e, p, ← q, a)
 
 -- the answer of a book that is checked
 module _ (book w : List ℕ) (n : ℕ) (e : n ≡ check_of book) where
-  pub bad_says_nothing : (n ≡ 0 → ⊥) → not_found ≡ reserved_of book w
+  pub bad_says_nothing : (n ≡ 0 → ⊥) → None ≡ reserved_of book w
   unfolding reserved_of
   bad_says_nothing p = rw (check_bad book n e p)
 
-  pub good_says : (r : Reserved) → n ≡ 0 → r ≡ halved_of book w → r ≡ reserved_of book w
+  pub good_says : (r : Option Reserved) → n ≡ 0 → r ≡ halved_of book w → r ≡ reserved_of book w
   good_says r p q = q ∙ halved book (check_good book n e p) w
 
--- two books that are checked
-module _ (house office : List ℕ) (n : ℕ) (e : n ≡ check_of house) where
-  pub one_bad : (n ≡ 0 → ⊥) → false ≡ both (good house) (good office)
-  one_bad p = rw (check_bad house n e p)
-
-  pub first_good : (m : ℕ) → n ≡ 0 → m ≡ check_of office → eqb m 0 ≡ both (good house) (good office)
-  first_good m p d = rw (check_good house n e p, d, check_is office)
+-- a good book has contents
+module _ (book : List ℕ) {A : Type 0} (f : A → ℕ) (o : Option A) (e : option_map f o ≡ rows_of book) (n : ℕ) (d : n ≡ check_of book) where
+  pub good_has : n ≡ 0 → is_some o ≡ good book
+  unfolding rows_of
+  good_has p = let g = check_good book n d p in rw g (go o (rw (good_enough book g) at e))
+    where
+      go : (x : Option A) → option_map f x ≡ Some (word_count book) → is_some x ≡ true
+      go None q = cc
+      go (Some y) q = refl
 
 -- bodies that run on start within the book
 runs_within : (book : List ℕ) (end k n at : ℕ) → runs_on end at (words_from book k n) ≡ true → (at ≤ end) × ((i : ℕ) → k ≤ i → i < k + n → start_at book i ≤ end)
@@ -115,30 +73,29 @@ unfolding words
 starts_within book g k h = (runs_within book (length book) 0 (word_count book) (bodies book) (good_runs book g)).1 k (omega arith) (omega arith)
 
 -- the lookup over two books: one is bad, or the house book holds the word, or the office's does, or neither
-module _ (house office w : List ℕ) (t : Bool) (b : t ≡ both (good house) (good office)) where
-  pub bad_part : not t ≡ true → ◌≡◌ {A = List ℕ} [] (found_part house office w)
-  unfolding found_part holder_of held_part
-  bad_part p = rw (← b, not-true t p)
+module _ (house office w : List ℕ) where
+  module _ (t : (good house ≡ false) ⊎ (good office ≡ false)) where
+    one_bad : both (good house) (good office) ≡ false
+    one_bad = ⊎_elim (λ a. rw a) (λ a. rw a (go (good house))) t
+      where
+        go : (g : Bool) → both g false ≡ false
+        go true = refl
+        go false = refl
 
-  pub bad_place : (hp op : ℕ × ℕ) → not t ≡ true → ◌≡◌ {A = ℕ × ℕ} (hp.0, 0 + hp.1) (found_place hp op house office w)
-  unfolding found_place holder_of held_place
-  bad_place hp op p = rw (← b, not-true t p, zero-add)
+    pub bad_part : ◌≡◌ {A = List ℕ} [] (found_part house office w)
+    unfolding found_part holder_of held_part
+    bad_part = rw one_bad
 
-  module _ (y : not t ≡ false) (f : SoughtWord) (e : f ≡ sought_of house w) where
-    now_good : both (good house) (good office) ≡ true
-    now_good = sym b ∙ not-false t y
+    pub bad_place : (hp op : ℕ × ℕ) → ◌≡◌ {A = ℕ × ℕ} (hp.0, 0 + hp.1) (found_place hp op house office w)
+    unfolding found_place holder_of held_place
+    bad_place hp op = rw (one_bad, zero-add)
 
-    good_house : good house ≡ true
-    good_house = both_left (good house) (good office) now_good
-
-    good_office : good office ≡ true
-    good_office = both_right (good house) (good office) now_good
-
+  module _ (good_house : good house ≡ true) (good_office : good office ≡ true) (f : Option ℕ) (e : f ≡ sought_of house w) where
     held : holder_of house office w ≡ either_book (sought_hit house f) (sought_hit office (sought_of office w))
     unfolding holder_of
-    held = rw (now_good, halved_first house good_house w, halved_first office good_office w, ← e)
+    held = rw (good_house, good_office, halved_first house good_house w, halved_first office good_office w, ← e)
 
-    module _ (k : ℕ) (p : f ≡ At k) where
+    module _ (k : ℕ) (p : f ≡ Some k) where
       held_house : holder_of house office w ≡ in_house (word_at house k)
       unfolding either_book sought_hit
       held_house = rw (held, p)
@@ -147,20 +104,20 @@ module _ (house office w : List ℕ) (t : Bool) (b : t ≡ both (good house) (go
       unfolding found_part held_part
       house_part r i = rw (held_house, i)
 
-      pub house_place : (hp op rp : ℕ × ℕ) → (start_at house k ≤ length house → rp ≡ (hp.0, hp.1 + start_at house k)) → rp ≡ found_place hp op house office w
+      pub house_place : (hp op rp : ℕ × ℕ) → (n : ℕ) → n ≡ word_count house → k < n → (start_at house k ≤ length house → rp ≡ (hp.0, hp.1 + start_at house k)) → rp ≡ found_place hp op house office w
       unfolding found_place held_place word_at
-      house_place hp op rp i = rw held_house (i (starts_within house good_house k (row_counted house w f e k p)))
+      house_place hp op rp n m l i = rw held_house (i (starts_within house good_house k (omega arith)))
 
-    module _ (n : f ≡ Nothing) (g : SoughtWord) (d : g ≡ sought_of office w) where
-      pub no_part : g ≡ Nothing → ◌≡◌ {A = List ℕ} [] (found_part house office w)
+    module _ (n : f ≡ None) (g : Option ℕ) (d : g ≡ sought_of office w) where
+      pub no_part : g ≡ None → ◌≡◌ {A = List ℕ} [] (found_part house office w)
       unfolding found_part either_book sought_hit held_part
       no_part p = rw (held, n, ← d, p)
 
-      pub no_place : (hp op : ℕ × ℕ) → g ≡ Nothing → ◌≡◌ {A = ℕ × ℕ} (hp.0, 0 + hp.1) (found_place hp op house office w)
+      pub no_place : (hp op : ℕ × ℕ) → g ≡ None → ◌≡◌ {A = ℕ × ℕ} (hp.0, 0 + hp.1) (found_place hp op house office w)
       unfolding found_place either_book sought_hit held_place
       no_place hp op p = rw (held, n, ← d, p, zero-add)
 
-      module _ (j : ℕ) (p : g ≡ At j) where
+      module _ (j : ℕ) (p : g ≡ Some j) where
         held_office : holder_of house office w ≡ in_office (word_at office j)
         unfolding either_book sought_hit
         held_office = rw (held, n, ← d, p)
@@ -169,6 +126,6 @@ module _ (house office w : List ℕ) (t : Bool) (b : t ≡ both (good house) (go
         unfolding found_part held_part
         office_part r i = rw (held_office, i)
 
-        pub office_place : (hp op rp : ℕ × ℕ) → (start_at office j ≤ length office → rp ≡ (op.0, op.1 + start_at office j)) → rp ≡ found_place hp op house office w
+        pub office_place : (hp op rp : ℕ × ℕ) → (c : ℕ) → c ≡ word_count office → j < c → (start_at office j ≤ length office → rp ≡ (op.0, op.1 + start_at office j)) → rp ≡ found_place hp op house office w
         unfolding found_place held_place word_at
-        office_place hp op rp i = rw held_office (i (starts_within office good_office j (row_counted office w g d j p)))
+        office_place hp op rp c m l i = rw held_office (i (starts_within office good_office j (omega arith)))

@@ -9,7 +9,7 @@ use mathlib.Core.Logic.{⊎_elim}
 use Rattle.basis.proofs.Bounds.{split}
 use Rattle.basis.proofs.Cases.{both_left, both_right}
 use Rattle.book.specs.Order.{compared, below}
-use Rattle.book.specs.declared.order.Order.TheVariants.{Less}
+use Rattle.std.specs.declared.cmp.Ordering.TheVariants.{Less}
 use Rattle.book.proofs.order.Orders.{is_less_lem, less_less}
 use Rattle.book.specs.Contents.{word_at, words_from}
 use Rattle.book.specs.Book.{below_next, rising}

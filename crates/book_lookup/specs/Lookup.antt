@@ -1,5 +1,5 @@
 -- What a word book answers for a word (document 01, Word book; in the source `is_reserved_keyword_or_symbol`).
-use Rattle.std.specs.Prelude.{ℕ, ◌+◌, ◌/◌, ◌%◌, Bool, true, false, List, [], ◌∷◌, ◌≡◌, ◌⊎◌, eqb}
+use Rattle.std.specs.Prelude.{ℕ, ◌+◌, ◌/◌, ◌%◌, Bool, List, [], ◌∷◌, Option, None, Some, ◌≡◌, ◌⊎◌, eqb}
 use Rattle.basis.specs.Types.{Text, Bytes}
 use Rattle.basis.specs.Pick.{pick, both}
 use Rattle.book.specs.Order.{same}
@@ -12,15 +12,10 @@ unfoldable pub Stands : Text → List BookWord → Type 0
 Stands w [] = ⊥
 Stands w (e ∷ es) = (e.text ≡ w) ⊎ Stands w es
 
--- an entry that was looked for, or none
-pub data Hit : Type 0 where
-  hit : BookWord → Hit
-  none : Hit
-
 -- the first entry that is the word
-unfoldable pub first_hit : Text → List BookWord → Hit
-first_hit w [] = none
-first_hit w (e ∷ es) = pick (same e.text w) (hit e) (first_hit w es)
+unfoldable pub first_hit : Text → List BookWord → Option BookWord
+first_hit w [] = None
+first_hit w (e ∷ es) = pick (same e.text w) (Some e) (first_hit w es)
 
 -- flag 1
 unfoldable pub is_a : ℕ → Bool
@@ -30,26 +25,18 @@ is_a flags = eqb (flags % 2) 1
 unfoldable pub is_b : ℕ → Bool
 is_b flags = eqb (flags / 2 % 2) 1
 
--- (found, a, a and b)
-abbrev pub looked_up : Bool → Bool → Bool → Reserved
-looked_up found a ab = record { found = found; a = a; ab = ab }
-
--- the answer for a word that the book does not hold
-abbrev pub not_found : Reserved
-not_found = looked_up false false false
-
--- the answer of an entry's flags
+-- the answer of an entry's flags: a, and a and b
 unfoldable pub flags_answer : ℕ → Reserved
-flags_answer flags = looked_up true (is_a flags) (both (is_a flags) (is_b flags))
+flags_answer flags = record { a = is_a flags; ab = both (is_a flags) (is_b flags) }
 
 -- the answer of what was found
-unfoldable pub hit_answer : Hit → Reserved
-hit_answer (hit e) = flags_answer e.flags
-hit_answer none = not_found
+unfoldable pub hit_answer : Option BookWord → Option Reserved
+hit_answer (Some e) = Some (flags_answer e.flags)
+hit_answer None = None
 
 -- the lookup: the answer of the first entry that is the word; a bad book finds nothing
-unfoldable pub reserved_of : Bytes → Text → Reserved
-reserved_of book w = pick (good book) (hit_answer (first_hit w (words book))) not_found
+unfoldable pub reserved_of : Bytes → Text → Option Reserved
+reserved_of book w = pick (good book) (hit_answer (first_hit w (words book))) None
 
 -- which of two books holds a word
 pub data Held : Type 0 where
@@ -58,10 +45,10 @@ pub data Held : Type 0 where
   nowhere : Held
 
 -- the house book first
-unfoldable pub either_book : Hit → Hit → Held
-either_book (hit e) h = in_house e
-either_book none (hit e) = in_office e
-either_book none none = nowhere
+unfoldable pub either_book : Option BookWord → Option BookWord → Held
+either_book (Some e) h = in_house e
+either_book None (Some e) = in_office e
+either_book None None = nowhere
 
 -- whichever book holds the word; nowhere if either book is bad
 unfoldable pub holder_of : Bytes → Bytes → Text → Held

@@ -3,7 +3,7 @@ use Prim.Native.Nat.{ℕ, ◌*◌, ◌≤◌, ◌<◌}
 use mathlib.Core.List.{List}
 use mathlib.Core.Path.{◌≡◌, ap, ◌∙◌}
 use lib.ListN.{length, get_or}
-use borrow.Author.Tests.{lt-ltb, le-ltb, ne_eqb}
+use borrow.Author.Tests.{lt-ltb, le-ltb}
 use Rattle.numbers.specs.Spell.{spelled}
 use Rattle.numbers.specs.Answer.{short}
 use Rattle.numbers.proofs.Rows.{length_spelled}
@@ -21,8 +21,3 @@ module _ (n : ℕ) (row memory : List ℕ) (e : length row ≡ n) (k : ℕ) wher
   pub long_told : n * 8 ≤ length memory → get_or row 0 0 ≡ returned_or k row memory
   unfolding short returned_or
   long_told h = rw (long, le-ltb (length memory) (n * 8) h)
-
--- every other number is 9
-pub other_number : (n : ℕ) → (n ≡ 1 → ⊥) → (n ≡ 2 → ⊥) → (n ≡ 3 → ⊥) → (n ≡ 14 → ⊥) → 9 ≡ short_row_number n
-unfolding short_row_number
-other_number n a b c d = rw (ne_eqb n 1 a, ne_eqb n 2 b, ne_eqb n 3 c, ne_eqb n 14 d)

@@ -1,9 +1,8 @@
 -- Answers as numbers, for the C names: a place or a length in the lower 32 bits, and the number of a refusal above them.
-use Rattle.std.specs.Prelude.{ℕ, ◌+◌, ◌*◌}
+use Rattle.std.specs.Prelude.{ℕ, ◌+◌, ◌*◌, Err, Ok}
 use Rattle.position.specs.Place.{line_number, column_number}
 use Rattle.position.specs.declared.Position.{Position}
-use Rattle.lent.specs.declared.Written.{Written}
-use Rattle.lent.specs.declared.Written.TheVariants as written
+use Rattle.lent.specs.Answer.{Written}
 
 -- a place: its line and its column, sixteen bits each, 0 where the place has none
 unfoldable pub packed : Position → ℕ
@@ -15,5 +14,5 @@ refusal_as_number n = n * 4294967296
 
 -- the length written, or the refusal
 unfoldable pub written_as_number : Written → ℕ
-written_as_number (written.Done n) = n
-written_as_number (written.Refused n) = refusal_as_number n
+written_as_number (Ok n) = n
+written_as_number (Err n) = refusal_as_number n

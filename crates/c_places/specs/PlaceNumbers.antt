@@ -1,10 +1,9 @@
 -- What a place tells or may be refused, as one number each, for the C names.
-use Rattle.std.specs.Prelude.{ℕ, ◌+◌}
+use Rattle.std.specs.Prelude.{ℕ, ◌+◌, None, Some}
 use Rattle.c_answer.specs.Packed.{packed, refusal_as_number}
 use Rattle.places.specs.Told.{Told, told}
-use Rattle.places.specs.declared.coordinates.Placed.{Placed}
-use Rattle.places.specs.declared.coordinates.Coordinate.{Coordinate}
-use Rattle.places.specs.declared.coordinates.Coordinate.TheVariants.{Some, None}
+use Rattle.places.specs.Answer.{Placed}
+use Rattle.places.specs.Answer.{Coordinate}
 
 -- a place in the lower 32 bits, the refusal above them
 abbrev pub placed_number : Told → ℕ

@@ -7,7 +7,7 @@ ghost use Rattle.c_answer.specs.Short.{returned};
 ghost use Rattle.c_places.specs.PlaceNumbers.{placed_as_number, coordinate_as_number};
 ghost use Rattle.c_places.specs.Rows.{place_row, pair_row, places_row, end_numbers, ends_given, record_row};
 
-use places::coordinates::{Coordinate, Placed};
+use places::coordinates::Placed;
 use position::Position;
 use span::Span;
 use token_ends::{Recorded, TokenEnds};
@@ -17,18 +17,18 @@ fn placed_as_number(a: Placed) -> u64
     ensures { result ≡ placed_as_number a }
 {
     match a {
-        Placed::At(p) => c_answer::pack(p),
-        Placed::Refused(n) => n as u64 * 4294967296,
+        Ok(p) => c_answer::pack(p),
+        Err(n) => n as u64 * 4294967296,
     }
 }
 
 // A line or a column, or 2^32 for none.
-fn coordinate_as_number(c: Coordinate) -> u64
+fn coordinate_as_number(c: Option<usize>) -> u64
     ensures { result ≡ coordinate_as_number c }
 {
     match c {
-        Coordinate::Some(n) => n as u64,
-        Coordinate::None => 4294967296,
+        Some(n) => n as u64,
+        None => 4294967296,
     }
 }
 
@@ -66,10 +66,10 @@ fn recorded_row(recorded: Recorded) -> [u64; 3]
     ensures { (result ≡ end_numbers (told recorded)) × (get_or result 0 0 ≤ 255) }
 {
     match recorded {
-        Recorded::Ends(ends) => {
+        Ok(ends) => {
             return [0, c_answer::pack(ends.last), c_answer::pack(ends.previous)];
         }
-        Recorded::Refused(number) => {
+        Err(number) => {
             return [number as u64, 0, 0];
         }
     }
@@ -84,7 +84,7 @@ pub extern "C" fn stew_place(line: u16, column: u16, answer: &mut [u8]) -> u32
     if answer.len() < 64 {
         return 9;
     }
-    numbers::write_row(&place_row(line, column), 8, answer);
+    let _ = numbers::write_row(&place_row(line, column), 8, answer);
     0
 }
 
@@ -105,7 +105,7 @@ pub extern "C" fn stew_places(
     }
     let p = Position::given(line, column);
     let q = Position::given(line2, column2);
-    numbers::write_row(&pair_row(p, q), 8, answer);
+    let _ = numbers::write_row(&pair_row(p, q), 8, answer);
     0
 }
 
@@ -134,6 +134,6 @@ pub extern "C" fn stew_record_token(
     if answer.len() < 24 {
         return c_answer::short_number(row[0]);
     }
-    numbers::write_row(&row, 8, &mut *answer);
+    let _ = numbers::write_row(&row, 8, &mut *answer);
     row[0] as u32
 }

@@ -3,7 +3,7 @@ use Rattle.std.specs.Prelude.{ℕ, List, [], ◌∷◌, ◌≡◌}
 use Rattle.literal.specs.Cut.{wrote}
 use Rattle.literal.specs.Told.{Told, told, refusal_number}
 use Rattle.literal.specs.Trace.{Trace}
-use Rattle.literal.specs.declared.Scanned.{Scanned}
+use Rattle.literal.specs.Scans.{Scanned}
 use Rattle.numbers.specs.Answer.{flag, answered, beside}
 use Rattle.c_answer.specs.Packed.{packed}
 use Rattle.c_answer.specs.Short.{returned_or}

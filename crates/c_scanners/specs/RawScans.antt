@@ -3,7 +3,7 @@ use Rattle.std.specs.Prelude.{ℕ, length}
 use Rattle.basis.specs.Types.{Text, Bytes, Offset}
 use Rattle.position.specs.Place.{given}
 use Rattle.literal.specs.Trace.{Trace}
-use Rattle.literal.specs.declared.Scanned.{Scanned}
+use Rattle.literal.specs.Scans.{Scanned}
 use Rattle.raw.specs.Raw.{as_source}
 use Rattle.raw.specs.Entries.{parse_trace, parse_of, resume_trace, resume_of}
 

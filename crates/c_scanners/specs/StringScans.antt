@@ -3,7 +3,7 @@ use Rattle.std.specs.Prelude.{ℕ, length}
 use Rattle.basis.specs.Types.{Text, Bytes, Code, Offset}
 use Rattle.position.specs.Place.{given}
 use Rattle.literal.specs.Trace.{Trace}
-use Rattle.literal.specs.declared.Scanned.{Scanned}
+use Rattle.literal.specs.Scans.{Scanned}
 use Rattle.string.specs.Entry.{string_trace, scan_of}
 
 -- the reading, and the answer

@@ -16,7 +16,7 @@ fn row_of(level: usize, start: Cursor, scanned: Commented) -> [u64; 4]
     ensures { (result ≡ comment_numbers (told level start scanned)) × (get_or result 0 0 ≤ 255) }
 {
     match scanned {
-        Commented::Done(comment) => {
+        Ok(comment) => {
             let cursor = comment.cursor;
             return [
                 0,
@@ -25,7 +25,7 @@ fn row_of(level: usize, start: Cursor, scanned: Commented) -> [u64; 4]
                 c_answer::pack(cursor.place),
             ];
         }
-        Commented::Refused(fault) => {
+        Err(fault) => {
             return [
                 fault.number as u64,
                 level as u64,
@@ -55,7 +55,7 @@ pub extern "C" fn stew_scan_block_comment(
     if answer.len() < 32 {
         return c_answer::short_number(row[0]);
     }
-    numbers::write_row(&row, 8, &mut *answer);
+    let _ = numbers::write_row(&row, 8, &mut *answer);
     row[0] as u32
 }
 

@@ -12,7 +12,7 @@ fn row_of(s: Scanned) -> [u64; 11]
     ensures { (result ≡ literal_row s) × (get_or result 0 0 ≤ 255) }
 {
     match s {
-        Scanned::Accepted(end, len) => {
+        Ok((end, len)) => {
             let cursor = end.cursor;
             return [
                 0,
@@ -28,7 +28,7 @@ fn row_of(s: Scanned) -> [u64; 11]
                 0,
             ];
         }
-        Scanned::Refused(refusal) => {
+        Err(refusal) => {
             let fault = refusal.fault;
             let cursor = refusal.cursor;
             return [
@@ -52,7 +52,10 @@ fn row_of(s: Scanned) -> [u64; 11]
 pub(crate) fn short_number(s: Scanned) -> u32
     ensures { result ≡ short_row_number (refusal_number s) }
 {
-    c_answer::short_number(s.fault().number as u64)
+    match s {
+        Ok(_) => c_answer::short_number(0),
+        Err(refusal) => c_answer::short_number(refusal.fault.number as u64),
+    }
 }
 
 // Puts the row into what is lent for it, 8 bytes a number, and answers the first. Its callers have asked for the room.
@@ -61,6 +64,6 @@ pub(crate) fn answer(s: Scanned, memory: &mut [u8]) -> u32
     ensures memory_after { memory.new ≡ answered (literal_row s) memory.old }
 {
     let row = row_of(s);
-    numbers::write_row(&row, 8, &mut *memory);
+    let _ = numbers::write_row(&row, 8, &mut *memory);
     row[0] as u32
 }

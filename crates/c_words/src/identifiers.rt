@@ -13,7 +13,7 @@ fn row_of(scanned: Identified) -> [u64; 8]
     ensures { (result ≡ identifier_numbers (told scanned)) × (get_or result 0 0 ≤ 255) }
 {
     match scanned {
-        Identified::Found(word) => {
+        Ok(word) => {
             let cursor = word.cursor;
             return [
                 0,
@@ -26,7 +26,7 @@ fn row_of(scanned: Identified) -> [u64; 8]
                 0,
             ];
         }
-        Identified::Refused(fault, cursor) => {
+        Err((fault, cursor)) => {
             let part = fault.part;
             return [
                 fault.number as u64,
@@ -61,6 +61,6 @@ pub extern "C" fn stew_parse_identifier_token(
     if answer.len() < 64 {
         return c_answer::short_number(row[0]);
     }
-    numbers::write_row(&row, 8, &mut *answer);
+    let _ = numbers::write_row(&row, 8, &mut *answer);
     row[0] as u32
 }

@@ -30,6 +30,6 @@ pub extern "C" fn stew_operators(token: u8, answer: &mut [u8]) -> u32
     if answer.len() < 72 {
         return 9;
     }
-    numbers::write_row(&row_of(token), 8, answer);
+    let _ = numbers::write_row(&row_of(token), 8, answer);
     0
 }

@@ -7,15 +7,14 @@ ghost use Rattle.c_answer.specs.Packed.{written_as_number};
 ghost use Rattle.c_words.specs.TokenNumbers.{lookup_as_number};
 ghost use Rattle.syntax.specs.Syntax.{literal_syntax_of};
 
-use token::Lookup;
 
 // A token, or none.
-pub(crate) fn lookup_as_number(l: Lookup) -> u64
+pub(crate) fn lookup_as_number(l: Option<u8>) -> u64
     ensures { result ≡ lookup_as_number l }
 {
     match l {
-        Lookup::Some(t) => t as u64,
-        Lookup::None => 256,
+        Some(t) => t as u64,
+        None => 256,
     }
 }
 

@@ -1,4 +1,5 @@
 -- Offsets that a scan gets to, character by character, and what the driver is to be told of them. Assumes nothing.
+use Rattle.utf8.specs.Looks.{char_found}
 use Prim.Native.Nat.{ℕ, suc, ◌+◌, ◌≤◌, ◌<◌}
 use native.Mathlib.Omega.{arith}
 use native.Mathlib.Nat.{add-zero, zero-add, suc-add, add_assoc}
@@ -7,7 +8,6 @@ use mathlib.Core.Path.{◌≡◌, sym, ap}
 use lib.ListN.{length}
 use Rattle.position.specs.declared.Position.{Position}
 use Rattle.utf8.specs.Table.{chars_at, look_at}
-use Rattle.utf8.specs.declared.Look.TheVariants.{Char}
 use Rattle.utf8.proofs.Laws.{chars_char, at_width}
 use Rattle.chars.specs.Scan.{widths}
 use Rattle.chars.specs.declared.cursor.Cursor.{Cursor}
@@ -17,11 +17,11 @@ use Rattle.chars.proofs.Cursors.{Took}
 -- from one offset to another by whole characters, none at least
 pub data Reached (t : List ℕ) : ℕ → ℕ → Type 0 where
   there : {a : ℕ} → Reached t a a
-  past : {a c w b : ℕ} → look_at t a ≡ Char c w → Reached t (a + w) b → Reached t a b
+  past : {a c w b : ℕ} → look_at t a ≡ char_found c w → Reached t (a + w) b → Reached t a b
 
 -- the same, by one character at least
 pub data Further (t : List ℕ) : ℕ → ℕ → Type 0 where
-  behind : {a c w b : ℕ} → look_at t a ≡ Char c w → Reached t (a + w) b → Further t a b
+  behind : {a c w b : ℕ} → look_at t a ≡ char_found c w → Reached t (a + w) b → Further t a b
 
 module _ {t : List ℕ} where
   pub and_on : {a b d : ℕ} → Reached t a b → Reached t b d → Reached t a d

@@ -1,17 +1,17 @@
 -- One turn of a scan over a text, from what looking at an offset finds. A loop's invariant is that the scan from here, after the notes so far, is the scan from the start; each law is one way through the loop.
 -- Assumes nothing.
+use Rattle.std.specs.Prelude.{None, Some}
 use Prim.Native.Nat.{ℕ, zero, suc, ◌+◌}
 use native.Mathlib.Nat.{add-zero, add_assoc}
 use mathlib.Core.List.{List, ◌∷◌}
 use mathlib.Core.Path.{◌≡◌, refl, ap, sym, ◌∙◌}
 use Rattle.utf8.specs.Table.{ch, chars_at, look_at}
-use Rattle.utf8.specs.declared.Look.{Look}
-use Rattle.utf8.specs.declared.Look.TheVariants.{Char, End}
+use Rattle.utf8.specs.Looks.{Look, char_found}
 use Rattle.utf8.proofs.Laws.{chars_char, chars_end}
 use Rattle.chars.specs.Scan.{Turn, go, stop, Rule, run, run_at, widths, on_turn, Move, on, over, move_at}
 
 -- the bytes of one more character
-pub widths_char : (t : List ℕ) (at k : ℕ) {c w : ℕ} → look_at t at ≡ Char c w → widths (suc k) (chars_at t at) ≡ w + widths k (chars_at t (at + w))
+pub widths_char : (t : List ℕ) (at k : ℕ) {c w : ℕ} → look_at t at ≡ char_found c w → widths (suc k) (chars_at t at) ≡ w + widths k (chars_at t (at + w))
 unfolding widths
 widths_char t at k e = rw (chars_char t at e)
 
@@ -24,8 +24,8 @@ module _ {S N R : Type 0} (rule : Rule S N R) (t : List ℕ) where
     where
       by : (x : Look) → look_at t at ≡ x → ((n : ℕ) → run rule k (chars_at t n) n s ≡ run rule 0 (chars_at t (n + widths k (chars_at t n))) (n + widths k (chars_at t n)) s)
           → run rule (suc k) (chars_at t at) at s ≡ run rule 0 (chars_at t (at + widths (suc k) (chars_at t at))) (at + widths (suc k) (chars_at t at)) s
-      by (Char c w) e ih = rw (chars_char t at e) (ih (at + w) ∙ ap (λ (n : ℕ). run rule 0 (chars_at t n) n s) (add_assoc at w (widths k (chars_at t (at + w)))))
-      by End e ih = rw (chars_end t at e) (rw (add-zero, chars_end t at e))
+      by (Some (c, w)) e ih = rw (chars_char t at e) (ih (at + w) ∙ ap (λ (n : ℕ). run rule 0 (chars_at t n) n s) (add_assoc at w (widths k (chars_at t (at + w)))))
+      by None e ih = rw (chars_end t at e) (rw (add-zero, chars_end t at e))
 
   -- what is left of the scan after a move
   resume : Move S N R → R
@@ -44,8 +44,8 @@ module _ {S N R : Type 0} (rule : Rule S N R) (t : List ℕ) where
         turned w (stop r) = refl
 
         by : (x : Look) → look_at t at ≡ x → run_at rule t at s ≡ resume (move_at rule t at s)
-        by (Char c w) e = rw (chars_char t at e) (turned w (rule.turn at (ch c w ∷ chars_at t (at + w)) s))
-        by End e = rw (chars_end t at e)
+        by (Some (c, w)) e = rw (chars_char t at e) (turned w (rule.turn at (ch c w ∷ chars_at t (at + w)) s))
+        by None e = rw (chars_end t at e)
 
     -- a scan goes as its move says
     pub move_on : {n : N} {at' : ℕ} {s' : S} → move_at rule t at s ≡ on n at' s' → run_at rule t at s ≡ rule.note n (run_at rule t at' s')
@@ -57,17 +57,17 @@ module _ {S N R : Type 0} (rule : Rule S N R) (t : List ℕ) where
     move_over q = moved ∙ ap resume q
 
     -- the text ends here
-    pub at_end_lem : look_at t at ≡ End → move_at rule t at s ≡ over (rule.end at s)
+    pub at_end_lem : look_at t at ≡ None → move_at rule t at s ≡ over (rule.end at s)
     unfolding move_at
     at_end_lem e = rw (chars_end t at e)
 
     -- a turn that takes one character, two, or any number; and one that is over
-    module _ {c w : ℕ} (e : look_at t at ≡ Char c w) where
+    module _ {c w : ℕ} (e : look_at t at ≡ char_found c w) where
       pub one_on : {n : N} {s' : S} → rule.turn at (ch c w ∷ chars_at t (at + w)) s ≡ go n 0 s' → move_at rule t at s ≡ on n (at + w) s'
       unfolding move_at widths
       one_on q = rw (chars_char t at e, q, add-zero)
 
-      pub two_on : {d v : ℕ} → look_at t (at + w) ≡ Char d v → {n : N} {s' : S} → rule.turn at (ch c w ∷ chars_at t (at + w)) s ≡ go n 1 s' → move_at rule t at s ≡ on n (at + w + v) s'
+      pub two_on : {d v : ℕ} → look_at t (at + w) ≡ char_found d v → {n : N} {s' : S} → rule.turn at (ch c w ∷ chars_at t (at + w)) s ≡ go n 1 s' → move_at rule t at s ≡ on n (at + w + v) s'
       unfolding move_at widths
       two_on f q = rw (chars_char t at e, q, chars_char t (at + w) f, add-zero)
 

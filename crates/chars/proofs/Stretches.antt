@@ -1,4 +1,5 @@
 -- Many turns of a scan at once: the one law of stretches, for any class and any rule. Assumes nothing.
+use Rattle.utf8.specs.Looks.{char_found}
 use Prim.Native.Nat.{ℕ, ◌+◌, ◌≤◌, ◌<◌}
 use native.Mathlib.Omega.{arith}
 use mathlib.Core.Bool.{Bool, true, false}
@@ -10,7 +11,6 @@ use borrow.Author.Tests.{ne_eqb}
 use Rattle.basis.specs.Pick.{either}
 use Rattle.basis.proofs.Cases.{not_both}
 use Rattle.utf8.specs.Table.{ch, chars_at, look_at}
-use Rattle.utf8.specs.declared.Look.TheVariants.{Char}
 use Rattle.utf8.proofs.Laws.{at_width}
 use Rattle.chars.specs.Scan.{go, Rule, run_at}
 use Rattle.chars.specs.Stretch.{StretchOf, none, more, among, Low, High, Other}
@@ -30,7 +30,7 @@ module _ {t : List ℕ} {of : ℕ → Type 0} {a : ℕ} where
   pub no_more : {k : ℕ} → k ≡ 0 → StretchOf t of a k a
   no_more q = rw q none
 
-  pub one_more : {k j b c w : ℕ} → StretchOf t of a k b → look_at t b ≡ Char c w → of c → j ≡ k + 1 → StretchOf t of a j (b + w)
+  pub one_more : {k j b c w : ℕ} → StretchOf t of a k b → look_at t b ≡ char_found c w → of c → j ≡ k + 1 → StretchOf t of a j (b + w)
   one_more p e y q = rw q (more p e y)
 
   -- a stretch and then one of another class, whose characters are all of this one
@@ -50,11 +50,11 @@ module _ {S N R A : Type 0} (rule : Rule S N R) (t : List ℕ) (state : ℕ → 
   Plain k b w = view b (run_at rule t b (state k)) ≡ view (b + w) (run_at rule t (b + w) (state (k + 1)))
 
   -- so it is where its turn takes it alone, and what the turn yields is of no account
-  pub plain_turn : {k b c w : ℕ} {n : N} → look_at t b ≡ Char c w → rule.turn b (ch c w ∷ chars_at t (b + w)) (state k) ≡ go n 0 (state (k + 1))
+  pub plain_turn : {k b c w : ℕ} {n : N} → look_at t b ≡ char_found c w → rule.turn b (ch c w ∷ chars_at t (b + w)) (state k) ≡ go n 0 (state (k + 1))
       → ((r : R) → view b (rule.note n r) ≡ view (b + w) r) → Plain k b w
   plain_turn {k} {b} {c} {w} e q v = ap (view b) (move_on rule t b (state k) (one_on rule t b (state k) e q)) ∙ v (run_at rule t (b + w) (state (k + 1)))
 
-  module _ (of : ℕ → Type 0) (a end : ℕ) (plain : (k b c w : ℕ) → a ≤ b → b + w ≤ end → look_at t b ≡ Char c w → of c → Plain k b w) where
+  module _ (of : ℕ → Type 0) (a end : ℕ) (plain : (k b c w : ℕ) → a ≤ b → b + w ≤ end → look_at t b ≡ char_found c w → of c → Plain k b w) where
     pub stretched : {k b : ℕ} → StretchOf t of a k b → b ≤ end → view a (run_at rule t a (state 0)) ≡ view b (run_at rule t b (state k))
     stretched none h = refl
     stretched (more {k} {b} {c} {w} p e y) h = stretched p (omega arith) ∙ plain k b c w (omega (arith, stretch_low p)) h e y

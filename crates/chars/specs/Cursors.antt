@@ -1,14 +1,12 @@
 -- The cursor, which stands in for the Rust's InputStream: `get_next` and `eat_next_and_advance`. Who looks ahead takes from a copy.
-use Rattle.std.specs.Prelude.{◌+◌}
+use Rattle.std.specs.Prelude.{◌+◌, None, Some}
 use Rattle.basis.specs.Types.{Text, Offset}
 use Rattle.position.specs.declared.Position.{Position}
 use Rattle.position.specs.Place.{advanced}
 use Rattle.utf8.specs.Table.{look_at}
-use Rattle.utf8.specs.declared.Look.{Look}
-use Rattle.utf8.specs.declared.Look.TheVariants as look
+use Rattle.utf8.specs.Looks.{Look}
 use Rattle.chars.specs.declared.cursor.Cursor.{Cursor}
-use Rattle.chars.specs.declared.cursor.Taken.{Taken}
-use Rattle.chars.specs.declared.cursor.Taken.TheVariants as taken
+use Rattle.chars.specs.Takes.{Taken, char_taken}
 
 -- the cursor at an offset and a place
 abbrev pub cursor : Offset → Position → Cursor
@@ -16,8 +14,8 @@ cursor n p = record { at = n; place = p }
 
 -- a character found at an offset is taken, and the place is then p
 abbrev pub taken_on : Offset → Position → Look → Taken
-taken_on at p (look.Char c w) = taken.Char c (cursor (at + w) p)
-taken_on at p look.End = taken.End
+taken_on at p (Some (c, w)) = char_taken c (cursor (at + w) p)
+taken_on at p None = None
 
 -- the next character taken, the place as it was
 unfoldable pub get_next_of : Text → Cursor → Taken

@@ -1,5 +1,6 @@
 pub mod Cursors
-pub mod Scan
-pub mod Stretch
 pub mod Ends
 pub mod Passing
+pub mod Scan
+pub mod Stretch
+pub mod Takes

@@ -4,7 +4,6 @@ ghost use Rattle.std.specs.Prelude.{◌≡◌};
 ghost use Rattle.chars.specs.Cursors.{get_next_of, eat_next_of};
 
 use position::Position;
-use utf8::Look;
 
 #[derive(Clone, Copy)]
 pub struct Cursor {
@@ -13,11 +12,7 @@ pub struct Cursor {
 }
 
 // A character that was taken, with the cursor behind it.
-#[derive(Clone, Copy)]
-pub enum Taken {
-    Char(u32, Cursor),
-    End,
-}
+pub type Taken = Option<(u32, Cursor)>;
 
 impl Cursor {
     // Takes the next character. The place stays.
@@ -26,10 +21,10 @@ impl Cursor {
     {
         let at = self.at;
         let place = self.place;
-        let Look::Char(c, w) = utf8::look_at(text, at) else {
-            return Taken::End;
+        let Some((c, w)) = utf8::look_at(text, at) else {
+            return None;
         };
-        Taken::Char(c, Cursor { at: at + w, place })
+        Some((c, Cursor { at: at + w, place }))
     }
 
     // Takes the next character, and one column.

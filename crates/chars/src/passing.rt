@@ -1,7 +1,6 @@
 // Passing many characters at once, for the scanners: those that a scanner takes one by one in the same way.
-ghost use Rattle.std.specs.Prelude.{◌≡◌, ◌+◌, ◌≤◌, ◌<◌, length, get_or};
+ghost use Rattle.std.specs.Prelude.{◌≡◌, ◌+◌, ◌≤◌, ◌<◌, length, get_or, None};
 ghost use Rattle.utf8.specs.Table.{look_at};
-ghost use Rattle.utf8.specs.declared.Look.TheVariants.{End};
 ghost use Rattle.chars.specs.Stretch.{StretchOf, NextChar, among, Low, High, Other};
 
 // The offset behind what was passed, and how many characters that is.
@@ -47,7 +46,7 @@ fn last(len: usize, from: usize, most: usize) -> usize
 fn width(text: &[u8], at: usize, x: u32, stop: usize) -> usize
     requires { (at < length text.now) × (x ≡ get_or text.now at 0) × (0x80 ≤ x) × (at ≤ stop) }
     ensures next_char { (result ≡ 0 → ⊥) → NextChar text.now High at stop result }
-    ensures at_value { result ≡ 0 → stop ≡ length text.now → look_at text.now at ≡ End }
+    ensures at_value { result ≡ 0 → stop ≡ length text.now → look_at text.now at ≡ None }
 {
     let w = utf8::width(text, at, x);
     if stop - at < w {
@@ -62,7 +61,7 @@ pub(crate) fn high(text: &[u8], from: usize, stop: usize) -> Passed
     requires { (from < stop) × (stop ≤ length text.now) × (0x80 ≤ get_or text.now from 0) }
     ensures stretch_of { StretchOf text.now High from result.count result.at }
     ensures at_le_stop { result.at ≤ stop }
-    ensures from_value { result.count ≡ 0 → stop ≡ length text.now → look_at text.now from ≡ End }
+    ensures from_value { result.count ≡ 0 → stop ≡ length text.now → look_at text.now from ≡ None }
 {
     let mut at = from;
     let mut count = 0;

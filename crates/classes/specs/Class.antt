@@ -1,5 +1,5 @@
 -- The ASCII classes: document 01, "ASCII letters, digits, `_`", and the Rust's functions of these names.
-use Rattle.std.specs.Prelude.{ℕ, ◌-◌, Bool, eqb}
+use Rattle.std.specs.Prelude.{ℕ, ◌-◌, Bool, eqb, leb, Option, Some, None}
 use Prim.Native.Char.{code}
 use Rattle.basis.specs.Types.{Code}
 use Rattle.basis.specs.Pick.{pick, either}
@@ -23,3 +23,7 @@ digit_of c =
     pick (within (code "0" ‥ code "9") c) (c - code "0")
     (pick (within (code "A" ‥ code "F") c) (c - (code "A" - 10))
     (pick (within (code "a" ‥ code "f") c) (c - (code "a" - 10)) 16))
+
+-- the value of a hex digit, where it is one
+unfoldable pub hex_digit : Code → Option ℕ
+hex_digit c = pick (leb 16 (digit_of c)) None (Some (digit_of c))

@@ -1,4 +1,5 @@
 -- What the arguments of a scan refuse, for each way out; what is known of arguments that nothing refuses; and the answer then. Assumes nothing.
+use Rattle.std.specs.Prelude.{Err, Ok}
 use Prim.Native.Nat.{ℕ, ◌≤◌, ◌<◌}
 use native.Mathlib.Omega.{arith}
 use mathlib.Core.Bool.{Bool, true, false}
@@ -17,7 +18,6 @@ use Rattle.door.specs.Door.{door_of}
 use Rattle.door.proofs.Doors.{admitted}
 use Rattle.fault.specs.Faults.{fault}
 use Rattle.comment.specs.Block.{comment_of, comment_refuses, scan_block_comment_of}
-use Rattle.comment.specs.declared.scan.Commented.TheVariants.{Done, Refused}
 
 module _ (t : List ℕ) (at : ℕ) (p : Position) (level : ℕ) where
   pub at_door : {n : ℕ} → n ≡ door_of t at → (n ≡ 0 → ⊥) → n ≡ comment_refuses t at p level
@@ -55,10 +55,10 @@ module _ (t : List ℕ) (at : ℕ) (p : Position) (level : ℕ) where
 
   -- the answer
   module _ {n : ℕ} (e : n ≡ comment_refuses t at p level) where
-    pub refused : (n ≡ 0 → ⊥) → Refused (fault n p) ≡ scan_block_comment_of t at p level
+    pub refused : (n ≡ 0 → ⊥) → Err (fault n p) ≡ scan_block_comment_of t at p level
     unfolding scan_block_comment_of
     refused h = rw (← e, ne_eqb n 0 h)
 
-    pub done : n ≡ 0 → Done (comment_of t (cursor at p) level) ≡ scan_block_comment_of t at p level
+    pub done : n ≡ 0 → Ok (comment_of t (cursor at p) level) ≡ scan_block_comment_of t at p level
     unfolding scan_block_comment_of
     done z = rw (← e, eq-eqb n 0 z)

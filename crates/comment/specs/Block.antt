@@ -1,5 +1,5 @@
 -- The block comment: document 01, "Level given; `/*` adds one, `*/` takes one, each pair eaten whole. At the end of input the open level is answered", and the Rust's `scan_block_comment`.
-use Rattle.std.specs.Prelude.{ℕ, ◌+◌, ◌-◌, List, [], ◌∷◌, eqb}
+use Rattle.std.specs.Prelude.{ℕ, ◌+◌, ◌-◌, List, [], ◌∷◌, eqb, Err, Ok}
 use Rattle.basis.specs.Types.{Text, Offset}
 use Rattle.basis.specs.Pick.{pick, both}
 use Rattle.position.specs.declared.Position.{Position}
@@ -12,8 +12,7 @@ use Rattle.chars.specs.Scan.{Turn, go, stop, Rule, follows, widths, run_at}
 use Rattle.chars.specs.declared.cursor.Cursor.{Cursor}
 use Rattle.fault.specs.Faults.{fault}
 use Rattle.comment.specs.declared.scan.Comment.{Comment}
-use Rattle.comment.specs.declared.scan.Commented.{Commented}
-use Rattle.comment.specs.declared.scan.Commented.TheVariants.{Done, Refused}
+use Rattle.comment.specs.Answer.{Commented}
 
 -- the level that is open at a cursor
 abbrev pub comment_at : ℕ → Cursor → Comment
@@ -68,7 +67,7 @@ comment_refuses t at p level = pick (eqb (door_of t at) 0) (pick (both (on_line 
 -- the answer of a scan
 unfoldable pub scan_block_comment_of : Text → Offset → Position → ℕ → Commented
 scan_block_comment_of t at p level =
-    pick (eqb (comment_refuses t at p level) 0) (Done (comment_of t (cursor at p) level)) (Refused (fault (comment_refuses t at p level) p))
+    pick (eqb (comment_refuses t at p level) 0) (Ok (comment_of t (cursor at p) level)) (Err (fault (comment_refuses t at p level) p))
 
 -- what a scan tells: the refusal's number, 0 for none, and the place reported with it; the level still open; the offset and position reached
 pub record Told : Type 0 where
@@ -79,5 +78,5 @@ pub record Told : Type 0 where
 
 -- the values of each case of an answer; a refused scan tells the level, the offset and the position that it was given
 unfoldable pub told : ℕ → Cursor → Commented → Told
-told level start (Done c) = record { number = 0; place = none; level = c.level; cursor = c.cursor }
-told level start (Refused f) = record { number = f.number; place = f.place; level = level; cursor = start }
+told level start (Ok c) = record { number = 0; place = none; level = c.level; cursor = c.cursor }
+told level start (Err f) = record { number = f.number; place = f.place; level = level; cursor = start }

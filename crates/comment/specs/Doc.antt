@@ -1,6 +1,5 @@
 -- Doc comments: document 01, "`is_doc_comment` counts `/**/` as a doc comment", and the Rust's `is_doc_comment`.
-use Rattle.std.specs.Prelude.{ℕ, Bool, [], ◌∷◌}
-use Prim.Native.Char.{code}
+use Rattle.std.specs.Prelude.{Bool}
 use Rattle.basis.specs.Types.{Text}
 use Rattle.basis.specs.Pick.{both, either, isnt}
 use Rattle.basis.specs.Words.{word, begins}
@@ -17,7 +16,3 @@ begins_only w longer s = both (begins w s) (isnt (begins longer s))
 --   //     false       /*a    false
 unfoldable pub is_doc_comment : Text → Bool
 is_doc_comment s = either (begins_only (word "///") (word "////") s) (begins_only (word "/**") (word "/***") s)
-
--- the same question for both kinds, as the code asks it: a slash and a byte twice, and not three times
-unfoldable pub twice : ℕ → Text → Bool
-twice b s = begins_only (code "/" ∷ b ∷ b ∷ []) (code "/" ∷ b ∷ b ∷ b ∷ []) s

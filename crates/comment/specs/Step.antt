@@ -1,13 +1,12 @@
 -- What the functions of one turn answer.
-use Rattle.std.specs.Prelude.{ℕ, ◌+◌, ◌≤◌, ◌<◌}
+use Rattle.std.specs.Prelude.{ℕ, ◌+◌, ◌≤◌, ◌<◌, None}
 use Rattle.basis.specs.Types.{Text, Code}
 use Rattle.basis.specs.Pick.{pick}
 use Rattle.utf8.specs.Table.{chars_at}
 use Rattle.chars.specs.Cursors.{cursor, eat_next_of}
 use Rattle.chars.specs.Scan.{follows, Move, on, over, move_at}
 use Rattle.chars.specs.declared.cursor.Cursor.{Cursor}
-use Rattle.chars.specs.declared.cursor.Taken.{Taken}
-use Rattle.chars.specs.declared.cursor.Taken.TheVariants.{End}
+use Rattle.chars.specs.Takes.{Taken}
 use Rattle.comment.specs.Block.{Inside, inside, comment_rule}
 use Rattle.comment.specs.declared.scan.Comment.{Comment}
 use Rattle.comment.specs.declared.scan.Led.{Led}
@@ -15,7 +14,7 @@ use Rattle.comment.specs.declared.scan.Led.TheVariants.{On, Over}
 
 -- the next character taken if it is c
 unfoldable pub eat_if_of : Text → Cursor → Code → Taken
-eat_if_of t s c = pick (follows c (chars_at t s.at)) (eat_next_of t s) End
+eat_if_of t s c = pick (follows c (chars_at t s.at)) (eat_next_of t s) None
 
 -- the rule's move from where the code stands: the level that is open, and the cursor
 unfoldable pub move_of : Text → ℕ → Cursor → Move Inside (Unit {0}) Comment

@@ -38,7 +38,7 @@ pub fn scan_block_comment(text: &[u8], at: usize, place: Position, level: usize)
 {
     let number = refuses(text, at, place, level);
     if number != 0 {
-        return Commented::Refused(Fault::at(number, place));
+        return Err(Fault::at(number, place));
     }
-    Commented::Done(scan::scan(text, Cursor { at, place }, level))
+    Ok(scan::scan(text, Cursor { at, place }, level))
 }

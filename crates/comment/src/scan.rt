@@ -15,11 +15,7 @@ pub struct Comment {
 }
 
 // A scan's answer: where it ended, or a refusal.
-#[derive(Clone, Copy)]
-pub enum Commented {
-    Done(Comment),
-    Refused(Fault),
-}
+pub type Commented = Result<Comment, Fault>;
 
 // One turn of the scan, with the level that is then open and the cursor: it goes on, or it is over.
 #[derive(Clone, Copy)]
@@ -32,13 +28,13 @@ enum Led {
 fn eat_if(text: &[u8], from: Cursor, c: u32) -> Taken
     ensures { result ≡ eat_if_of text.now from c }
 {
-    let Taken::Char(d, next) = from.eat_next_and_advance(text) else {
-        return Taken::End;
+    let Some((d, next)) = from.eat_next_and_advance(text) else {
+        return None;
     };
     if d == c {
-        return Taken::Char(d, next);
+        return Some((d, next));
     }
-    Taken::End
+    None
 }
 
 // Takes a character, or a pair whole.
@@ -47,17 +43,17 @@ fn turn(text: &[u8], level: usize, from: Cursor) -> Led
     ensures value { result ≡ as_led (move_of text.now level from) }
     ensures turn_fits { TurnFits (length text.now) from result }
 {
-    let Taken::Char(c, next) = from.eat_next_and_advance(text) else {
+    let Some((c, next)) = from.eat_next_and_advance(text) else {
         return Led::Over(level, from);
     };
     if c == SLASH {
-        let Taken::Char(_, after) = eat_if(text, next, STAR) else {
+        let Some((_, after)) = eat_if(text, next, STAR) else {
             return Led::On(level, next);
         };
         return Led::On(level + 1, after);
     }
     if c == STAR {
-        let Taken::Char(_, after) = eat_if(text, next, SLASH) else {
+        let Some((_, after)) = eat_if(text, next, SLASH) else {
             return Led::On(level, next);
         };
         if level == 1 {

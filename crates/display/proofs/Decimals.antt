@@ -61,9 +61,6 @@ decimal_some =
     (λ n h. rw (decimal_one n h) (omega arith))
     (λ n h e. rw (decimal_more n h, length-append (decimal (n / 10)) (digit (n % 10) ∷ [])) (omega arith))
 
-pub decimal_length : (n : ℕ) → 10 ≤ n → length (decimal n) ≡ length (decimal (n / 10)) + 1
-decimal_length n h = rw (decimal_more n h, length-append (decimal (n / 10)) (digit (n % 10) ∷ []))
-
 -- each byte is one of `0` to `9`
 abbrev pub Digits : List ℕ → Type 0
 Digits xs = (i : ℕ) → i < length xs → (48 ≤ get_or xs i 0) × (get_or xs i 0 ≤ 57)

@@ -1,4 +1,4 @@
 pub mod Decimals
-pub mod Texts
+pub mod Printed
 pub mod Lines
 pub mod Examples

@@ -1,4 +1,4 @@
--- The words of NONE, and of a span, as the tests of its places tell them. Assumes nothing.
+-- The words of a span, as the tests of its places tell them. Assumes nothing.
 use Prim.Native.Nat.{ℕ}
 use mathlib.Core.Bool.{Bool, true, false}
 use mathlib.Core.List.{List, ◌++◌}
@@ -14,22 +14,12 @@ use Rattle.places.specs.Coordinates.{line_option}
 use Rattle.places.proofs.coordinates.Numbers.{line_some}
 use Rattle.span.specs.declared.Span.{Span}
 use Rattle.span.specs.Spans.{span_start, span_end}
-use Rattle.display.specs.Forms.{long_of, display_of, debug_of, same_option, same_line, apart, dashed, between, span_of}
+use Rattle.display.specs.Forms.{debug_of, same_option, same_line, apart, dashed, between, span_of}
 
 -- of places that are not NONE the numbers tell what the Rust's Options tell
 lines_compared : (a b : Position) {n m : ℕ} → is_none a ≡ false → is_none b ≡ false → n ≡ line_number a → m ≡ line_number b → same_option (line_option a) (line_option b) ≡ eqb n m
 unfolding same_option
 lines_compared a b h g e f = rw (e, f, line_some a h, line_some b g)
-
--- the two forms of NONE are one, and of another place Display is the long one
-module _ (p : Position) where
-  pub none_alike : is_none p ≡ true → display_of p ≡ debug_of p
-  unfolding display_of debug_of
-  none_alike h = rw h
-
-  pub some_long : is_none p ≡ false → display_of p ≡ long_of p
-  unfolding display_of
-  some_long h = rw h
 
 -- the first and the third case of the match are one
 alone : (a : Bool) (x y z : List ℕ) → (a ≡ true → x ≡ z) → pick (both a true) x (pick a y z) ≡ z

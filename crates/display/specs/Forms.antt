@@ -1,11 +1,10 @@
 -- The words of types/position.rs: Display and Debug for Position, Display for Span.
-use Rattle.std.specs.Prelude.{Bool, true, false, ◌++◌, eqb}
+use Rattle.std.specs.Prelude.{Bool, true, false, ◌++◌, eqb, None, Some}
 use Rattle.basis.specs.Types.{Text}
 use Rattle.basis.specs.Pick.{pick, both, isnt}
 use Rattle.basis.specs.Words.{word}
 use Rattle.position.specs.declared.Position.{Position}
-use Rattle.places.specs.declared.coordinates.Coordinate.{Coordinate}
-use Rattle.places.specs.declared.coordinates.Coordinate.TheVariants.{Some, None}
+use Rattle.places.specs.Answer.{Coordinate}
 use Rattle.span.specs.declared.Span.{Span}
 use Rattle.display.specs.declared.Shown.{Shown}
 use Rattle.position.specs.Place.{none, is_none, begins_line, line_number, column_number}

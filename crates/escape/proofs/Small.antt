@@ -1,4 +1,5 @@
 -- An escape ends at a small place within the text where its start is one. Assumes nothing.
+use Rattle.std.specs.Prelude.{Err, None, Ok, Some}
 use Prim.Native.Nat.{ℕ, zero, suc, ◌+◌, ◌*◌}
 use mathlib.Core.List.{List}
 use lib.Dec.{eqb, leb}
@@ -7,19 +8,17 @@ use Rattle.utf8.specs.Encode.{is_scalar}
 use Rattle.classes.specs.Class.{digit_of}
 use Rattle.chars.specs.Cursors.{eat_next_of}
 use Rattle.chars.specs.declared.cursor.Cursor.{Cursor}
-use Rattle.chars.specs.declared.cursor.Taken.{Taken}
-use Rattle.chars.specs.declared.cursor.Taken.TheVariants as taken
+use Rattle.chars.specs.Takes.{Taken}
 use Rattle.chars.proofs.Small.{In, TakenIn, ate_in}
 use Rattle.escape.specs.Escapes.{no_char, letter_of, digits_after, on_taken, on_digit, digits_from, scalar_of, escaped_of}
-use Rattle.escape.specs.declared.Digits.{Digits}
-use Rattle.escape.specs.declared.Digits.TheVariants.{Value, Bad}
+use Rattle.escape.specs.Answer.{Digits}
 use Rattle.escape.specs.declared.Escaped.{Escaped}
 use Rattle.escape.specs.declared.Escaped.TheVariants.{Char, Malformed, Other}
 
 module _ (t : List ℕ) where
   abbrev DigitsIn : Digits → Type 0
-  DigitsIn (Value v c) = In t c
-  DigitsIn (Bad c) = In t c
+  DigitsIn (Ok (v, c)) = In t c
+  DigitsIn (Err c) = In t c
 
   abbrev pub EscapedIn : Escaped → Type 0
   EscapedIn (Char d c) = In t c
@@ -32,14 +31,14 @@ module _ (t : List ℕ) where
   digits_in (suc n) v here h = by (eat_next_of t here) (ate_in t here h.0) (λ v c k. digits_in n v c k)
     where
       by : (x : Taken) → TakenIn t x → ((v : ℕ) (c : Cursor) → In t c → DigitsIn (digits_from t n v c))
-          → DigitsIn (on_taken x (λ c next. on_digit (digit_of c) (Bad next) (λ d. digits_from t n (v * 16 + d) next)) (Bad here))
-      by (taken.Char c next) k ih = pick_cases DigitsIn (leb 16 (digit_of c)) _ _ (λ y. k) (λ z. ih (v * 16 + digit_of c) next k)
-      by taken.End k ih = h
+          → DigitsIn (on_taken x (λ c next. on_digit (digit_of c) (Err next) (λ d. digits_from t n (v * 16 + d) next)) (Err here))
+      by (Some (c, next)) k ih = pick_cases DigitsIn (leb 16 (digit_of c)) _ _ (λ y. k) (λ z. ih (v * 16 + digit_of c) next k)
+      by None k ih = h
 
   number_in : (x : Digits) → DigitsIn x → EscapedIn (scalar_of x)
   unfolding scalar_of
-  number_in (Value v c) h = pick_cases EscapedIn (is_scalar v) _ _ (λ y. h) (λ n. h)
-  number_in (Bad c) h = h
+  number_in (Ok (v, c)) h = pick_cases EscapedIn (is_scalar v) _ _ (λ y. h) (λ n. h)
+  number_in (Err c) h = h
 
   pub escaped_in : (c : ℕ) (here : Cursor) → In t here → EscapedIn (escaped_of t c here)
   unfolding escaped_of

@@ -11,15 +11,15 @@ use lib.Dec.{lit≤, leb, eqb}
 use borrow.Author.Tests.{le-leb, lt-leb, eq-eqb, ne_eqb}
 use Rattle.basis.proofs.Cases.{pick_cases}
 use Rattle.utf8.specs.Encode.{is_scalar}
-use Rattle.classes.specs.Class.{digit_of}
+use Rattle.std.specs.Prelude.{Option, Some, None, Err, Ok}
+use Rattle.classes.specs.Class.{digit_of, hex_digit}
+use Rattle.classes.proofs.Digits.{digit_found, digit_missed}
 use Rattle.chars.specs.Cursors.{eat_next_of}
 use Rattle.chars.specs.declared.cursor.Cursor.{Cursor}
-use Rattle.chars.specs.declared.cursor.Taken.{Taken}
-use Rattle.chars.specs.declared.cursor.Taken.TheVariants as taken
+use Rattle.chars.specs.Takes.{Taken, char_taken}
 use Rattle.chars.proofs.Cursors.{ate_took}
 use Rattle.escape.specs.Escapes.{no_char, letter_of, digits_after, on_taken, on_digit, digits_from, scalar_of, escaped_of}
-use Rattle.escape.specs.declared.Digits.{Digits}
-use Rattle.escape.specs.declared.Digits.TheVariants.{Value, Bad}
+use Rattle.escape.specs.Answer.{Digits, valued}
 use Rattle.escape.specs.declared.Escaped.{Escaped}
 use Rattle.escape.specs.declared.Escaped.TheVariants.{Char, Malformed, Other}
 use Rattle.chars.proofs.Reaches.{Reached, there, and_on, took_reached}
@@ -72,7 +72,7 @@ pub counting_start : (t : List ℕ) (n : ℕ) (from : Cursor) → Counting t n f
 counting_start t n from = record { within = omega arith; small = omega arith; is = rw sub-zero }
 
 module _ (t : List ℕ) (n : ℕ) (from here : Cursor) (v i : ℕ) (k : Counting t n from here v i) where
-  pub counting_done : n ≤ i → Value v here ≡ digits_from t n 0 from
+  pub counting_done : n ≤ i → valued v here ≡ digits_from t n 0 from
   unfolding digits_from
   counting_done h = let z : n - i ≡ 0 = omega arith in sym (k.is ∙ rw z)
 
@@ -84,31 +84,32 @@ module _ (t : List ℕ) (n : ℕ) (from here : Cursor) (v i : ℕ) (k : Counting
     counting_small g = let l : i ≤ 7 = omega arith in let p : 16 ^ i ≤ 268435456 = pow-le-pow_right (lit≤ tt) l in omega (arith, k.small)
 
     module _ {x : Taken} (e : x ≡ eat_next_of t here) where
-      pub counting_cut : x ≡ taken.End → Bad here ≡ digits_from t n 0 from
+      pub counting_cut : x ≡ None → Err here ≡ digits_from t n 0 from
       unfolding digits_from
       counting_cut y = sym (k.is ∙ rw (next, sym e ∙ y))
 
-      module _ {c : ℕ} {to : Cursor} (y : x ≡ taken.Char c to) {d : ℕ} (g : d ≡ digit_of c) where
-        pub counting_bad : 16 ≤ d → Bad to ≡ digits_from t n 0 from
+      module _ {c : ℕ} {to : Cursor} (y : x ≡ char_taken c to) {o : Option ℕ} (g : o ≡ hex_digit c) where
+        pub counting_bad : o ≡ None → Err to ≡ digits_from t n 0 from
         unfolding digits_from
-        counting_bad z = sym (k.is ∙ rw (next, sym e ∙ y, ← g, le-leb 16 d z))
+        counting_bad z = sym (k.is ∙ rw (next, sym e ∙ y, le-leb 16 (digit_of c) (digit_missed c (sym z ∙ g))))
 
-        pub counting_more : d < 16 → Counting t n from to (v * 16 + d) (i + 1)
+        pub counting_more : {d : ℕ} → o ≡ Some d → Counting t n from to (v * 16 + d) (i + 1)
         unfolding digits_from
-        counting_more z =
+        counting_more {d} z =
+            let q = digit_found c {d = d} (sym z ∙ g) in
             record {
               within = omega arith;
               small = let p = k.small in rw (add-one, pow-suc) (omega arith);
-              is = k.is ∙ rw (next, sym e ∙ y, ← g, lt-leb 16 d z);
+              is = k.is ∙ rw (next, sym e ∙ y, ← q.0, lt-leb 16 d q.1);
             }
 
 -- what they make
 module _ (t : List ℕ) (n : ℕ) (here : Cursor) {x : Digits} (e : x ≡ digits_from t n 0 here) where
-  pub digits_bad : {to : Cursor} → x ≡ Bad to → Malformed to ≡ scalar_of (digits_from t n 0 here)
+  pub digits_bad : {to : Cursor} → x ≡ Err to → Malformed to ≡ scalar_of (digits_from t n 0 here)
   unfolding scalar_of
   digits_bad y = rw (sym e ∙ y)
 
-  module _ {v : ℕ} {to : Cursor} (y : x ≡ Value v to) {b : Bool} (g : b ≡ is_scalar v) where
+  module _ {v : ℕ} {to : Cursor} (y : x ≡ valued v to) {b : Bool} (g : b ≡ is_scalar v) where
     pub digits_scalar : b ≡ true → Char v to ≡ scalar_of (digits_from t n 0 here)
     unfolding scalar_of
     digits_scalar z = rw (sym e ∙ y, sym g ∙ z)
@@ -134,8 +135,8 @@ module _ (t : List ℕ) (c : ℕ) (here : Cursor) {l : ℕ} (e : l ≡ letter_of
 
 -- ---- whole characters
 abbrev pub ReachedIn : List ℕ → ℕ → Digits → Type 0
-ReachedIn t a (Value v here) = Reached t a here.at
-ReachedIn t a (Bad here) = Unit {0}
+ReachedIn t a (Ok (v, here)) = Reached t a here.at
+ReachedIn t a (Err here) = Unit {0}
 
 abbrev pub ReachedBy : List ℕ → ℕ → Escaped → Type 0
 ReachedBy t a (Char c here) = Reached t a here.at
@@ -143,8 +144,8 @@ ReachedBy t a (Malformed here) = Unit {0}
 ReachedBy t a Other = Unit {0}
 
 on_reached : {t : List ℕ} {a b : ℕ} (x : Digits) → Reached t a b → ReachedIn t b x → ReachedIn t a x
-on_reached (Value v here) p q = and_on p q
-on_reached (Bad here) p q = tt
+on_reached (Ok (v, here)) p q = and_on p q
+on_reached (Err here) p q = tt
 
 digits_reached : (t : List ℕ) (n v : ℕ) (here : Cursor) → ReachedIn t here.at (digits_from t n v here)
 unfolding digits_from
@@ -152,16 +153,16 @@ digits_reached t zero v here = there
 digits_reached t (suc n) v here = by (eat_next_of t here) refl (λ u next. digits_reached t n u next)
   where
     by : (x : Taken) → eat_next_of t here ≡ x → ((u : ℕ) (next : Cursor) → ReachedIn t next.at (digits_from t n u next))
-        → ReachedIn t here.at (on_taken x (λ c next. on_digit (digit_of c) (Bad next) (λ d. digits_from t n (v * 16 + d) next)) (Bad here))
-    by (taken.Char c next) e ih =
+        → ReachedIn t here.at (on_taken x (λ c next. on_digit (digit_of c) (Err next) (λ d. digits_from t n (v * 16 + d) next)) (Err here))
+    by (Some (c, next)) e ih =
         pick_cases (ReachedIn t here.at) (leb 16 (digit_of c)) _ _ (λ _. tt)
         (λ _. on_reached (digits_from t n (v * 16 + digit_of c) next) (took_reached (ate_took t here e)) (ih (v * 16 + digit_of c) next))
-    by taken.End e ih = tt
+    by None e ih = tt
 
 number_reached : (t : List ℕ) (a : ℕ) (x : Digits) → ReachedIn t a x → ReachedBy t a (scalar_of x)
 unfolding scalar_of
-number_reached t a (Value v here) p = pick_cases (ReachedBy t a) (is_scalar v) _ _ (λ _. p) (λ _. tt)
-number_reached t a (Bad here) p = tt
+number_reached t a (Ok (v, here)) p = pick_cases (ReachedBy t a) (is_scalar v) _ _ (λ _. p) (λ _. tt)
+number_reached t a (Err here) p = tt
 
 pub escaped_reached : (t : List ℕ) (c : ℕ) (here : Cursor) → ReachedBy t here.at (escaped_of t c here)
 unfolding escaped_of

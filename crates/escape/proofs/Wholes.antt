@@ -1,4 +1,5 @@
 -- Whole escapes read at once, for each way through the code. Assumes nothing.
+use Rattle.utf8.specs.Looks.{char_found}
 use Prim.Native.Char.{code}
 use Prim.Native.Nat.{ℕ, ◌+◌, ◌-◌, ◌*◌, ◌≤◌, ◌<◌}
 use native.Mathlib.Omega.{arith}
@@ -14,10 +15,11 @@ use Rattle.position.specs.Place.{start, advanced_by}
 use Rattle.position.proofs.Moves.{advanced_by_none, advanced_by_more}
 use Rattle.utf8.specs.Table.{◌‥◌, within, look_at}
 use Rattle.utf8.specs.Encode.{is_scalar}
-use Rattle.utf8.specs.declared.Look.TheVariants as look
 use Rattle.utf8.proofs.Bits.{look_ascii}
 use Rattle.utf8.proofs.Ranges.{within_high}
-use Rattle.classes.specs.Class.{digit_of}
+use Rattle.std.specs.Prelude.{Option, Some}
+use Rattle.classes.specs.Class.{digit_of, hex_digit}
+use Rattle.classes.proofs.Digits.{digit_found}
 use Rattle.chars.specs.Cursors.{cursor}
 use Rattle.chars.proofs.Cursors.{ate}
 use Rattle.escape.specs.Escapes.{no_char, letter_of, digits_after}
@@ -61,9 +63,11 @@ module _ (t : List ℕ) (from n v i : ℕ) (k : Counted t from n v i) where
     pub counted_small : n ≤ 8 → v < 268435456
     counted_small g = counting_small t n (cursor from start) (cursor (from + i) (advanced_by i start)) v i (k start) h g
 
-    module _ (w : from + i < length t) {d : ℕ} (g : d ≡ digit_of (get_or t (from + i) 0)) (z : d < 16) where
-      seen : look_at t (from + i) ≡ look.Char (get_or t (from + i) 0) 1
-      seen = sym (look_ascii t (from + i) w 1 (digit_ascii (get_or t (from + i) 0) (rw (← g) z)) refl)
+    module _ (w : from + i < length t) {o : Option ℕ} (g : o ≡ hex_digit (get_or t (from + i) 0)) {d : ℕ} (z : o ≡ Some d) where
+      seen : look_at t (from + i) ≡ char_found (get_or t (from + i) 0) 1
+      seen =
+          let q = digit_found (get_or t (from + i) 0) {d = d} (sym z ∙ g) in
+          sym (look_ascii t (from + i) w 1 (digit_ascii (get_or t (from + i) 0) (rw (← q.0) q.1)) refl)
 
       pub counted_more : Counted t from n (v * 16 + d) (i + 1)
       counted_more p =
@@ -71,7 +75,7 @@ module _ (t : List ℕ) (from n v i : ℕ) (k : Counted t from n v i) where
           (counting_more t n (cursor from p) (cursor (from + i) (advanced_by i p)) v i (k p) h refl (ate t (cursor (from + i) (advanced_by i p)) seen) g z)
 
 -- ---- the whole
-module _ (t : List ℕ) (q at c : ℕ) (b : look_at t at ≡ look.Char 0x5C 1) (s : look_at t (at + 1) ≡ look.Char c 1) (g : 0x20 ≤ c) {l : ℕ} (e : l ≡ letter_of c) where
+module _ (t : List ℕ) (q at c : ℕ) (b : look_at t at ≡ char_found 0x5C 1) (s : look_at t (at + 1) ≡ char_found c 1) (g : 0x20 ≤ c) {l : ℕ} (e : l ≡ letter_of c) where
   pub whole_letter : (l ≡ no_char → ⊥) → WholeAt t q at (whole_escape l 2)
   whole_letter h = stands {d = l} 0 b s g (λ p. rw (add-zero (at + 2), advanced_by_none p) (sym (escapes_letter t c (cursor (at + 2) p) e h)))
 

@@ -1,5 +1,5 @@
 -- Escapes in a string literal: document 01, "Escapes `\\ \n \r \t`, .. `\x` 2, `\u` 4, `\U` 8 hex digits; surrogates and numbers above 10FFFF are 6", and these arms of the Rust's `parse_string_literal`.
-use Rattle.std.specs.Prelude.{ℕ, zero, suc, ◌+◌, ◌*◌, eqb, leb}
+use Rattle.std.specs.Prelude.{ℕ, zero, suc, ◌+◌, ◌*◌, eqb, leb, Err, None, Ok, Some}
 use Prim.Native.Char.{code}
 use Rattle.basis.specs.Types.{Code, Text}
 use Rattle.basis.specs.Pick.{pick}
@@ -7,10 +7,8 @@ use Rattle.utf8.specs.Encode.{is_scalar}
 use Rattle.classes.specs.Class.{digit_of}
 use Rattle.chars.specs.Cursors.{eat_next_of}
 use Rattle.chars.specs.declared.cursor.Cursor.{Cursor}
-use Rattle.chars.specs.declared.cursor.Taken.{Taken}
-use Rattle.chars.specs.declared.cursor.Taken.TheVariants as taken
-use Rattle.escape.specs.declared.Digits.{Digits}
-use Rattle.escape.specs.declared.Digits.TheVariants.{Value, Bad}
+use Rattle.chars.specs.Takes.{Taken}
+use Rattle.escape.specs.Answer.{Digits, valued}
 use Rattle.escape.specs.declared.Escaped.{Escaped}
 use Rattle.escape.specs.declared.Escaped.TheVariants.{Char, Malformed, Other}
 
@@ -32,8 +30,8 @@ digits_after c = pick (eqb c (code "x")) 2 (pick (eqb c (code "u")) 4 (pick (eqb
 
 -- a character that was taken, or the end
 abbrev pub on_taken : {A : Type 0} → Taken → (ℕ → Cursor → A) → A → A
-on_taken (taken.Char c next) f end = f c next
-on_taken taken.End f end = end
+on_taken (Some (c, next)) f end = f c next
+on_taken None f end = end
 
 -- a digit's value, or what is no digit
 abbrev pub on_digit : ℕ → Digits → (ℕ → Digits) → Digits
@@ -41,13 +39,13 @@ on_digit d bad f = pick (leb 16 d) bad (f d)
 
 -- n digits, counted on from v: each character is taken, whatever it is
 unfoldable pub digits_from : Text → ℕ → ℕ → Cursor → Digits
-digits_from t zero v here = Value v here
-digits_from t (suc n) v here = on_taken (eat_next_of t here) (λ c next. on_digit (digit_of c) (Bad next) (λ d. digits_from t n (v * 16 + d) next)) (Bad here)
+digits_from t zero v here = valued v here
+digits_from t (suc n) v here = on_taken (eat_next_of t here) (λ c next. on_digit (digit_of c) (Err next) (λ d. digits_from t n (v * 16 + d) next)) (Err here)
 
 -- the scalar value that the digits make
 unfoldable pub scalar_of : Digits → Escaped
-scalar_of (Value v here) = pick (is_scalar v) (Char v here) (Malformed here)
-scalar_of (Bad here) = Malformed here
+scalar_of (Ok (v, here)) = pick (is_scalar v) (Char v here) (Malformed here)
+scalar_of (Err here) = Malformed here
 
 -- what a backslash and the character c stand for, the cursor standing behind c
 unfoldable pub escaped_of : Text → Code → Cursor → Escaped

@@ -1,13 +1,13 @@
 // Escapes in a string literal: what a backslash and the character after it stand for.
 #![tactic(auto)]
 
+ghost use Rattle.utf8.specs.Looks.{char_found};
 ghost use Rattle.std.specs.Prelude.{◌≡◌, ◌+◌, ◌≤◌, length};
 ghost use Rattle.utf8.specs.Table.{look_at};
-ghost use Rattle.utf8.specs.declared.Look.TheVariants.{Char};
 ghost use Rattle.escape.specs.Escapes.{no_char, letter_of, digits_after, digits_from, scalar_of, escaped_of};
 ghost use Rattle.escape.specs.Whole.{DigitsAt, WholeAt};
 
-use chars::cursor::{Cursor, Taken};
+use chars::cursor::Cursor;
 use classes::marks::BACKSLASH;
 
 // No character: it stands for nothing, and has no encoding.
@@ -35,11 +35,7 @@ const NONE: WholeEscape = WholeEscape {
 };
 
 // The number that digits make and the cursor behind them, or the cursor where they fail.
-#[derive(Clone, Copy)]
-enum Digits {
-    Value(u32, Cursor),
-    Bad(Cursor),
-}
+type Digits = Result<(u32, Cursor), Cursor>;
 
 // The character that a letter stands for by itself.
 fn letter_of(c: u32) -> u32
@@ -75,18 +71,17 @@ fn hex_digits(text: &[u8], n: u32, from: Cursor) -> Digits
     let mut v: u32 = 0;
     let mut i = 0;
     while i < n {
-        let Taken::Char(c, next) = here.eat_next_and_advance(text) else {
-            return Digits::Bad(here);
+        let Some((c, next)) = here.eat_next_and_advance(text) else {
+            return Err(here);
         };
-        let d = classes::to_digit(c);
-        if 16 <= d {
-            return Digits::Bad(next);
-        }
+        let Some(d) = classes::to_digit(c) else {
+            return Err(next);
+        };
         v = v * 16 + d;
         here = next;
         i += 1;
     }
-    Digits::Value(v, here)
+    Ok((v, here))
 }
 
 // The scalar value that n digits make: a surrogate or a number above 10FFFF is malformed.
@@ -95,13 +90,13 @@ fn number(text: &[u8], n: u32, here: Cursor) -> Escaped
     ensures { result ≡ scalar_of (digits_from text.now n 0 here) }
 {
     match hex_digits(text, n, here) {
-        Digits::Value(v, next) => {
+        Ok((v, next)) => {
             if utf8::is_scalar(v) {
                 return Escaped::Char(v, next);
             }
             Escaped::Malformed(next)
         }
-        Digits::Bad(next) => Escaped::Malformed(next),
+        Err(next) => Escaped::Malformed(next),
     }
 }
 
@@ -134,10 +129,9 @@ fn value_at(text: &[u8], from: usize, n: usize) -> u32
     let mut v: u32 = 0;
     let mut i = 0;
     while i < n {
-        let d = classes::to_digit(text[from + i] as u32);
-        if 16 <= d {
+        let Some(d) = classes::to_digit(text[from + i] as u32) else {
             return NOTHING;
-        }
+        };
         v = v * 16 + d;
         i += 1;
     }
@@ -147,7 +141,7 @@ fn value_at(text: &[u8], from: usize, n: usize) -> u32
 // What a backslash and the character c behind it, at an offset, stand for, with the digits that belong to them; none where they
 // are malformed.
 fn whole_of(text: &[u8], q: u32, at: usize, c: u32) -> WholeEscape
-    requires { (at + 2 ≤ length text.now) × (look_at text.now at ≡ Char 0x5C 1) × (look_at text.now (at + 1) ≡ Char c 1) × (0x20 ≤ c) }
+    requires { (at + 2 ≤ length text.now) × (look_at text.now at ≡ char_found 0x5C 1) × (look_at text.now (at + 1) ≡ char_found c 1) × (0x20 ≤ c) }
     ensures { WholeAt text.now q at result }
 {
     let letter = letter_of(c);

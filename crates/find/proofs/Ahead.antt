@@ -1,4 +1,5 @@
 -- What is found ends further on, within the script; and no limit and no room makes a script wrong. Assumes nothing.
+use Rattle.std.specs.Prelude.{Err, None, Ok, Some}
 use Prim.Native.Nat.{ℕ, ◌+◌, ◌≤◌, ◌<◌}
 use native.Mathlib.Omega.{arith}
 use mathlib.Core.Bool.{Bool}
@@ -10,8 +11,7 @@ use Rattle.basis.proofs.Cases.{pick_cases}
 use Rattle.position.specs.declared.Position.{Position}
 use Rattle.position.specs.Place.{advanced}
 use Rattle.utf8.specs.Table.{look_at}
-use Rattle.utf8.specs.declared.Look.{Look}
-use Rattle.utf8.specs.declared.Look.TheVariants as look
+use Rattle.utf8.specs.Looks.{Look, char_found}
 use Rattle.utf8.proofs.Laws.{at_width}
 use Rattle.classes.specs.Class.{is_numeric_digit}
 use Rattle.chars.specs.Cursors.{cursor}
@@ -21,13 +21,11 @@ use Rattle.chars.specs.Ends.{stretch_end}
 use Rattle.chars.specs.declared.stretch.Stretch.TheVariants as Stretch
 use Rattle.chars.proofs.stretch.Ends.{end_reached}
 use Rattle.identifier.specs.Identifiers.{identify_of}
-use Rattle.identifier.specs.declared.scan.Identified.{Identified}
-use Rattle.identifier.specs.declared.scan.Identified.TheVariants as identified
+use Rattle.identifier.specs.Answer.{Identified}
 use Rattle.identifier.proofs.scan.Ends as Word
 use Rattle.identifier.proofs.scan.Ends.{identified_ahead}
 use Rattle.symbols.specs.Symbols.{longest_symbol_of}
-use Rattle.symbols.specs.declared.Longest.{Longest}
-use Rattle.symbols.specs.declared.Longest.TheVariants.{Symbol, Nothing}
+use Rattle.symbols.specs.Found.{Longest}
 use Rattle.symbols.proofs.Longer.{offset_within}
 use Rattle.comment.specs.Block.{comment_of}
 use Rattle.comment.proofs.scan.Ends.{comment_reached}
@@ -54,15 +52,15 @@ unfolding symbol_of
 symbol_ahead t at w p = by (longest_symbol_of t at) refl
   where
     by : (x : Longest) → longest_symbol_of t at ≡ x → Ahead t at (symbol_of at w p x)
-    by (Symbol k n) q = let r = offset_within t at k n q in (omega (arith, r.0), r.1)
-    by Nothing q = (λ z. omega arith, λ z. omega arith, λ z. omega arith)
+    by (Some (k, n)) q = let r = offset_within t at k n q in (omega (arith, r.0), r.1)
+    by None q = (λ z. omega arith, λ z. omega arith, λ z. omega arith)
 
 wording : (t book : List ℕ) (at : ℕ) (p : Position) (x : Identified) → Word.Ahead t book (cursor at p) x → Ahead t at (word_of x)
 unfolding word_of
-wording t book at p (identified.Found w) h = h
-wording t book at p (identified.Refused f e) h = h
+wording t book at p (Ok w) h = h
+wording t book at p (Err (f, e)) h = h
 
-module _ (white : ℕ → Bool) (t book : List ℕ) (at c w : ℕ) (p : Position) (e : look_at t at ≡ look.Char c w) where
+module _ (white : ℕ → Bool) (t book : List ℕ) (at c w : ℕ) (p : Position) (e : look_at t at ≡ char_found c w) where
   wide : (1 ≤ w) × (at + w ≤ length t) × (w ≤ 4)
   wide = at_width t at e
 
@@ -113,5 +111,5 @@ unfolding find_of
 find_ahead white t book s = by (look_at t s.at) refl
   where
     by : (x : Look) → look_at t s.at ≡ x → Ahead t s.at (on_look white t book s x)
-    by (look.Char c w) e = begins_ahead white t book s.at c w (advanced s.place) e
-    by look.End e = tt
+    by (Some (c, w)) e = begins_ahead white t book s.at c w (advanced s.place) e
+    by None e = tt

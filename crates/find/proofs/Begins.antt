@@ -1,4 +1,5 @@
 -- What begins at a place, for each way out of the functions. Assumes nothing.
+use Rattle.std.specs.Prelude.{None, Ok, Some}
 use Prim.Native.Nat.{ℕ, ◌+◌, ◌-◌, ◌≤◌, ◌<◌}
 use native.Mathlib.Omega.{arith}
 use Prim.Native.Char.{code}
@@ -13,8 +14,7 @@ use Rattle.basis.proofs.Cases.{pick_cases}
 use Rattle.position.specs.declared.Position.{Position}
 use Rattle.position.specs.Place.{advanced, advanced_by, lined}
 use Rattle.utf8.specs.Table.{◌‥◌, within, look_at}
-use Rattle.utf8.specs.declared.Look.{Look}
-use Rattle.utf8.specs.declared.Look.TheVariants as look
+use Rattle.utf8.specs.Looks.{Look, char_found}
 use Rattle.utf8.proofs.Laws.{at_width}
 use Rattle.utf8.proofs.Ranges.{within_low, within_high}
 use Rattle.classes.specs.Class.{is_numeric_digit, is_id_first_alphabetic}
@@ -29,12 +29,9 @@ use Rattle.fault.specs.Faults.{part, unexpected_input, still_open}
 use Rattle.token.specs.Tokens as Token
 use Rattle.entry.specs.Kinds as Kind
 use Rattle.identifier.specs.Identifiers.{identify_of}
-use Rattle.identifier.specs.Told.{identified_fault}
 use Rattle.identifier.specs.declared.scan.Word.{Word}
-use Rattle.identifier.specs.declared.scan.Identified.{Identified}
-use Rattle.identifier.specs.declared.scan.Identified.TheVariants as identified
-use Rattle.symbols.specs.declared.Longest.{Longest}
-use Rattle.symbols.specs.declared.Longest.TheVariants.{Symbol, Nothing}
+use Rattle.identifier.specs.Answer.{Identified, refused_at}
+use Rattle.symbols.specs.Found.{Longest, symbol_as}
 use Rattle.comment.specs.Block.{comment_of}
 use Rattle.find.specs.Find.{opens_string, opens_char, opens_text, opens_raw, white_of, word_of, number_run, symbol_of, block_comment, code_of, slash_sign, hash_sign, sign_at, on_sign, mark_of, begins_word, begins_of, find_of}
 use Rattle.find.specs.declared.Sign.{Sign}
@@ -53,21 +50,21 @@ module _ (c : ℕ) (to : Cursor) where
 
 -- ---- words
 module _ {x : Identified} where
-  pub a_word : {w : Word} → x ≡ identified.Found w → word_of x ≡ Part w.cursor w.kind w.token
+  pub a_word : {w : Word} → x ≡ Ok w → word_of x ≡ Part w.cursor w.kind w.token
   unfolding word_of
   a_word q = rw q
 
-  pub no_word : {f : Fault} {e : Cursor} → x ≡ identified.Refused f e → {g : Fault} → g ≡ identified_fault x → word_of x ≡ Wrong g
-  unfolding word_of identified_fault
-  no_word q h = rw (h, q)
+  pub no_word : {f : Fault} {e : Cursor} → x ≡ refused_at f e → word_of x ≡ Wrong f
+  unfolding word_of
+  no_word q = rw q
 
 -- ---- symbols
 module _ (at w : ℕ) (p : Position) {l : Longest} where
-  pub a_symbol : {t n : ℕ} → l ≡ Symbol t n → symbol_of at w p l ≡ Part (cursor (at + n) (advanced_by (n - 1) p)) Kind.symbol t
+  pub a_symbol : {t n : ℕ} → l ≡ symbol_as t n → symbol_of at w p l ≡ Part (cursor (at + n) (advanced_by (n - 1) p)) Kind.symbol t
   unfolding symbol_of
   a_symbol q = rw q
 
-  pub no_symbol : l ≡ Nothing → symbol_of at w p l ≡ Wrong (unexpected_input p (part at w))
+  pub no_symbol : l ≡ None → symbol_of at w p l ≡ Wrong (unexpected_input p (part at w))
   unfolding symbol_of
   no_symbol q = rw q
 
@@ -139,8 +136,8 @@ code_within : (t : List ℕ) (at c : ℕ) → code_of (look_at t at) ≡ c → c
 code_within t at c q h = by (look_at t at) refl
   where
     by : (x : Look) → look_at t at ≡ x → at + 1 ≤ length t
-    by (look.Char d w) e = omega (arith, at_width t at e)
-    by look.End e = let y : code_of look.End ≡ c = rw e at q in absurd (omega (arith, y, h))
+    by (Some (d, w)) e = omega (arith, at_width t at e)
+    by None e = let y : code_of None ≡ c = rw e at q in absurd (omega (arith, y, h))
 
 module _ (t : List ℕ) (at : ℕ) where
   slash_paired : (d : ℕ) → code_of (look_at t (at + 1)) ≡ d → Paired t at (slash_sign d)
@@ -207,17 +204,17 @@ digit_plain c y = plain (omega (arith, within_low (code "0" ‥ code "9") c y)) 
 
 -- ---- what begins behind a cursor, by what is white
 module _ (white : ℕ → Bool) (t book : List ℕ) (s : Cursor) where
-  pub nothing_more_lem : look_at t s.at ≡ look.End → find_of white t book s ≡ End
+  pub nothing_more_lem : look_at t s.at ≡ None → find_of white t book s ≡ End
   unfolding find_of
   nothing_more_lem e = rw e
 
-  module _ {c w : ℕ} (e : look_at t s.at ≡ look.Char c w) where
+  module _ {c w : ℕ} (e : look_at t s.at ≡ char_found c w) where
     pub finds_white : white c ≡ true → find_of white t book s ≡ white_of c (cursor (s.at + w) (advanced s.place))
     unfolding find_of begins_of
     finds_white y = rw (e, y)
 
 -- no letter, no `_` and no digit is white
-module _ (t book : List ℕ) (s : Cursor) {c w : ℕ} (e : look_at t s.at ≡ look.Char c w) where
+module _ (t book : List ℕ) (s : Cursor) {c w : ℕ} (e : look_at t s.at ≡ char_found c w) where
   abbrev p : Position
   p = advanced s.place
 

@@ -1,4 +1,5 @@
 -- The skip of ASCII white space, for each way through its loop; and what it passes is found white, one character after the other. Assumes nothing.
+use Rattle.std.specs.Prelude.{None, Some}
 use Prim.Native.Nat.{ℕ, zero, suc, ◌+◌, ◌-◌, ◌≤◌, ◌<◌}
 use native.Mathlib.Omega.{arith}
 use mathlib.Core.Bool.{Bool, true, false}
@@ -12,8 +13,7 @@ use Rattle.basis.proofs.Cases.{both_right, both_no}
 use Rattle.position.specs.declared.Position.{Position}
 use Rattle.position.specs.Place.{advanced, lined}
 use Rattle.utf8.specs.Table.{look_at}
-use Rattle.utf8.specs.declared.Look.{Look}
-use Rattle.utf8.specs.declared.Look.TheVariants as look
+use Rattle.utf8.specs.Looks.{Look, char_found}
 use Rattle.utf8.proofs.Laws.{at_width}
 use Rattle.chars.specs.Cursors.{cursor}
 use Rattle.chars.specs.declared.cursor.Cursor.{Cursor}
@@ -43,11 +43,11 @@ module _ (white : ℕ → Bool) (t : List ℕ) (from : Cursor) where
         by zero = refl
         by (suc n) = h n
 
-    pub skip_end : look_at t at ≡ look.End → skip_of white t from ≡ cursor at p
+    pub skip_end : look_at t at ≡ None → skip_of white t from ≡ cursor at p
     unfolding skip_from
     skip_end e = stops (λ n. rw e)
 
-    module _ {c w : ℕ} (e : look_at t at ≡ look.Char c w) where
+    module _ {c w : ℕ} (e : look_at t at ≡ char_found c w) where
       pub skip_beyond : 0x80 ≤ c → skip_of white t from ≡ cursor at p
       unfolding skip_from
       skip_beyond h = stops (λ n. rw (e, le-ltb c 0x80 h))
@@ -84,13 +84,13 @@ module _ (white : ℕ → Bool) (t book : List ℕ) (P : Cursor → Type 0) (on 
   first_skipped : (next : Cursor → Cursor) → ((c : Cursor) → P c → P (next c)) → (s : Cursor) → P s → P (on_character white s (look_at t s.at) next)
   first_skipped next rest s h = seen (look_at t s.at) refl
     where
-      past : (c w : ℕ) → look_at t s.at ≡ look.Char c w → (b : Bool) → both (ltb c 0x80) (white c) ≡ b → P (on_blank b (past_white c (cursor (s.at + w) (advanced s.place))) s next)
+      past : (c w : ℕ) → look_at t s.at ≡ char_found c w → (b : Bool) → both (ltb c 0x80) (white c) ≡ b → P (on_blank b (past_white c (cursor (s.at + w) (advanced s.place))) s next)
       past c w e false q = h
       past c w e true q = rest _ (on s _ (finds_white white t book s e (both_right (ltb c 0x80) (white c) q) ∙ whitening c _) h)
 
       seen : (x : Look) → look_at t s.at ≡ x → P (on_character white s x next)
-      seen look.End e = h
-      seen (look.Char c w) e = past c w e (both (ltb c 0x80) (white c)) refl
+      seen None e = h
+      seen (Some (c, w)) e = past c w e (both (ltb c 0x80) (white c)) refl
 
   pub skipped_by : (n : ℕ) (s : Cursor) → P s → P (skip_from white n t s)
   unfolding skip_from

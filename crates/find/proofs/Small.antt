@@ -1,4 +1,5 @@
 -- What is found tells small numbers where its start is small. Assumes nothing.
+use Rattle.std.specs.Prelude.{Err, None, Ok, Some}
 use Prim.Native.Nat.{ℕ, ◌+◌, ◌-◌, ◌≤◌}
 use Prim.Native.Char.{code}
 use native.Mathlib.Omega.{arith}
@@ -12,8 +13,7 @@ use Rattle.position.specs.declared.Position.{Position}
 use Rattle.position.specs.Place.{advanced}
 use Rattle.position.proofs.Small.{Small, advanced_small, advanced_by_small, lined_small}
 use Rattle.utf8.specs.Table.{look_at}
-use Rattle.utf8.specs.declared.Look.{Look}
-use Rattle.utf8.specs.declared.Look.TheVariants as look
+use Rattle.utf8.specs.Looks.{Look, char_found}
 use Rattle.utf8.proofs.Laws.{at_width}
 use Rattle.classes.specs.Class.{is_numeric_digit}
 use Rattle.chars.specs.Cursors.{cursor}
@@ -22,12 +22,10 @@ use Rattle.fault.proofs.Small.{Tells, fault_tells}
 use Rattle.chars.specs.declared.stretch.Stretch.TheVariants as Stretch
 use Rattle.chars.proofs.stretch.Small.{end_small}
 use Rattle.identifier.specs.Identifiers.{identify_of}
-use Rattle.identifier.specs.declared.scan.Identified.{Identified}
-use Rattle.identifier.specs.declared.scan.Identified.TheVariants as identified
+use Rattle.identifier.specs.Answer.{Identified}
 use Rattle.identifier.proofs.scan.Small.{IdentifiedSmall, identified_small}
 use Rattle.symbols.specs.Symbols.{longest_symbol_of}
-use Rattle.symbols.specs.declared.Longest.{Longest}
-use Rattle.symbols.specs.declared.Longest.TheVariants.{Symbol, Nothing}
+use Rattle.symbols.specs.Found.{Longest}
 use Rattle.comment.specs.Block.{comment_of}
 use Rattle.comment.proofs.scan.Small.{comment_small}
 use Rattle.find.specs.Find.{white_of, word_of, number_run, symbol_of, line_comment, block_comment, code_of, slash_sign, hash_sign, sign_at, on_sign, mark_of, begins_word, begins_of, on_look, find_of}
@@ -48,15 +46,15 @@ module _ (white : ℕ → Bool) (t book : List ℕ) where
     -- a character stands there, so many bytes wide
     symbol_small : (w : ℕ) → at + w ≤ length t → (x : Longest) → FoundSmall (symbol_of at w p x)
     unfolding symbol_of
-    symbol_small w l (Symbol k n) = (omega arith, advanced_by_small (n - 1) h)
-    symbol_small w l Nothing = record { number = omega arith; place = h; at = omega arith; len = omega arith }
+    symbol_small w l (Some (k, n)) = (omega arith, advanced_by_small (n - 1) h)
+    symbol_small w l None = record { number = omega arith; place = h; at = omega arith; len = omega arith }
 
     word_small : (x : Identified) → IdentifiedSmall t book (cursor at p) h x → FoundSmall (word_of x)
     unfolding word_of
-    word_small (identified.Found w) k = k
-    word_small (identified.Refused f e) k = k
+    word_small (Ok w) k = k
+    word_small (Err (f, e)) k = k
 
-    module _ (c w : ℕ) (e : look_at t at ≡ look.Char c w) where
+    module _ (c w : ℕ) (e : look_at t at ≡ char_found c w) where
       wide : (1 ≤ w) × (at + w ≤ length t) × (w ≤ 4)
       wide = at_width t at e
 
@@ -120,5 +118,5 @@ module _ (white : ℕ → Bool) (t book : List ℕ) where
   find_small s h = by (look_at t s.at) refl
     where
       by : (x : Look) → look_at t s.at ≡ x → FoundSmall (on_look white t book s x)
-      by (look.Char c w) e = begins_small s.at (advanced s.place) (advanced_small h) c w e
-      by look.End e = tt
+      by (Some (c, w)) e = begins_small s.at (advanced s.place) (advanced_small h) c w e
+      by None e = tt

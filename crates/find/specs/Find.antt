@@ -1,12 +1,11 @@
 -- What begins at a place of a script: document 01, "Run": "Skips White_Space, then: letter or `_` an identifier; digit a number run; `"`, `'`, backtick; `#` before `{` is a symbol, else raw; `//` to before LF; `/*`; else the longest listed symbol".
-use Rattle.std.specs.Prelude.{ℕ, ◌+◌, ◌-◌, Bool, eqb}
+use Rattle.std.specs.Prelude.{ℕ, ◌+◌, ◌-◌, Bool, eqb, Err, None, Ok, Some}
 use Rattle.basis.specs.Types.{Bytes, Code, Offset, Text}
 use Rattle.basis.specs.Pick.{pick, either}
 use Rattle.position.specs.declared.Position.{Position}
 use Rattle.position.specs.Place.{advanced, advanced_by, lined}
 use Rattle.utf8.specs.Table.{look_at}
-use Rattle.utf8.specs.declared.Look.{Look}
-use Rattle.utf8.specs.declared.Look.TheVariants as look
+use Rattle.utf8.specs.Looks.{Look}
 use Rattle.classes.specs.Class.{is_numeric_digit, is_id_first_alphabetic}
 use Rattle.classes.specs.Marks.{lf, quote, hash, apostrophe, star, slash, underscore, backtick, left_brace}
 use Rattle.entry.specs.Kinds as Kind
@@ -17,11 +16,9 @@ use Rattle.chars.specs.declared.stretch.Stretch.TheVariants as Stretch
 use Rattle.fault.specs.Faults.{part, unexpected_input, still_open}
 use Rattle.token.specs.Tokens as Token
 use Rattle.identifier.specs.Identifiers.{identify_of}
-use Rattle.identifier.specs.declared.scan.Identified.{Identified}
-use Rattle.identifier.specs.declared.scan.Identified.TheVariants as identified
+use Rattle.identifier.specs.Answer.{Identified}
 use Rattle.symbols.specs.Symbols.{longest_symbol_of}
-use Rattle.symbols.specs.declared.Longest.{Longest}
-use Rattle.symbols.specs.declared.Longest.TheVariants.{Symbol, Nothing}
+use Rattle.symbols.specs.Found.{Longest}
 use Rattle.comment.specs.Block.{comment_of}
 use Rattle.find.specs.declared.Sign.{Sign}
 use Rattle.find.specs.declared.Sign.TheVariants as sign
@@ -51,8 +48,8 @@ white_of c to = White (pick (eqb c lf) (cursor to.at (lined to.place)) to)
 
 -- a name, a keyword, a reserved word, the symbol `_`; or 8
 unfoldable pub word_of : Identified → Found
-word_of (identified.Found w) = Part w.cursor w.kind w.token
-word_of (identified.Refused f c) = Wrong f
+word_of (Ok w) = Part w.cursor w.kind w.token
+word_of (Err (f, c)) = Wrong f
 
 -- a number: the longest run of ASCII letters, digits and `_`
 unfoldable pub number_run : Text → Cursor → Found
@@ -60,8 +57,8 @@ number_run t to = Part (stretch_end Stretch.Word t to) Kind.number Token.Integer
 
 -- the longest listed symbol, whose first character is at p; or 5, about a character so many bytes wide
 unfoldable pub symbol_of : Offset → ℕ → Position → Longest → Found
-symbol_of at w p (Symbol token n) = Part (cursor (at + n) (advanced_by (n - 1) p)) Kind.symbol token
-symbol_of at w p Nothing = Wrong (unexpected_input p (part at w))
+symbol_of at w p (Some (token, n)) = Part (cursor (at + n) (advanced_by (n - 1) p)) Kind.symbol token
+symbol_of at w p None = Wrong (unexpected_input p (part at w))
 
 -- `//` to before LF, from behind the second character
 unfoldable pub line_comment : Text → Cursor → Found
@@ -73,8 +70,8 @@ block_comment t c = let r = comment_of t c 1 in pick (eqb r.level 0) (Part r.cur
 
 -- the code point of a character found; no code point at the end
 abbrev pub code_of : Look → ℕ
-code_of (look.Char c w) = c
-code_of look.End = 0x110000
+code_of (Some (c, w)) = c
+code_of None = 0x110000
 
 -- what `/` is the sign of, by the character behind it
 unfoldable pub slash_sign : Code → Sign
@@ -118,8 +115,8 @@ begins_of white t book at p c w =
     (mark_of t at p c w)))
 
 abbrev pub on_look : (Code → Bool) → Text → Bytes → Cursor → Look → Found
-on_look white t book s (look.Char c w) = begins_of white t book s.at (advanced s.place) c w
-on_look white t book s look.End = End
+on_look white t book s (Some (c, w)) = begins_of white t book s.at (advanced s.place) c w
+on_look white t book s None = End
 
 -- what begins behind a cursor, by what is white, under a good book
 unfoldable pub find_of : (Code → Bool) → Text → Bytes → Cursor → Found

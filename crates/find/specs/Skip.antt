@@ -1,11 +1,10 @@
 -- The ASCII white space that a run skips at once. Each character of it is what `find_of` calls white, so a run that skips it stands where one stands that takes it turn by turn (script, proofs/Skips.antt).
-use Rattle.std.specs.Prelude.{ℕ, zero, suc, ◌+◌, ◌-◌, Bool, true, false, eqb, ltb, length}
+use Rattle.std.specs.Prelude.{ℕ, zero, suc, ◌+◌, ◌-◌, Bool, true, false, eqb, ltb, length, None, Some}
 use Rattle.basis.specs.Types.{Code, Text}
 use Rattle.basis.specs.Pick.{pick, both}
 use Rattle.position.specs.Place.{advanced, lined}
 use Rattle.utf8.specs.Table.{look_at}
-use Rattle.utf8.specs.declared.Look.{Look}
-use Rattle.utf8.specs.declared.Look.TheVariants as look
+use Rattle.utf8.specs.Looks.{Look}
 use Rattle.classes.specs.Marks.{lf}
 use Rattle.chars.specs.Cursors.{cursor}
 use Rattle.chars.specs.declared.cursor.Cursor.{Cursor}
@@ -20,8 +19,8 @@ on_blank true to s next = next to
 on_blank false to s next = s
 
 abbrev pub on_character : (Code → Bool) → Cursor → Look → (Cursor → Cursor) → Cursor
-on_character white s (look.Char c w) next = on_blank (both (ltb c 0x80) (white c)) (past_white c (cursor (s.at + w) (advanced s.place))) s next
-on_character white s look.End next = s
+on_character white s (Some (c, w)) next = on_blank (both (ltb c 0x80) (white c)) (past_white c (cursor (s.at + w) (advanced s.place))) s next
+on_character white s None next = s
 
 -- behind n characters at most
 unfoldable pub skip_from : (Code → Bool) → ℕ → Text → Cursor → Cursor

@@ -27,11 +27,8 @@ use chars::stretch::Stretch;
 use classes::marks;
 use entry::kinds;
 use fault::{Fault, Part};
-use identifier::scan::Identified;
 use position::Position;
-use symbols::Longest;
 use token::tokens;
-use utf8::Look;
 
 // What opens a literal: its kind, and the terminator that closes it; a raw literal's is `#`.
 #[derive(Clone, Copy)]
@@ -95,7 +92,7 @@ fn symbol(text: &[u8], at: usize, place: Position, width: usize) -> Found
     requires { at ≤ length text.now }
     ensures { result ≡ symbol_of at width place (longest_symbol_of text.now at) }
 {
-    let Longest::Symbol(token, n) = symbols::longest_of(&text[at..]) else {
+    let Some((token, n)) = symbols::longest_of(&text[at..]) else {
         return Found::Wrong(Fault::about(Fault::UNEXPECTED_INPUT, place, Part { at, len: width }));
     };
     let last = place.advanced_by(n - 1);
@@ -126,7 +123,7 @@ fn block(text: &[u8], from: Cursor) -> Found
 fn code_at(text: &[u8], at: usize) -> u32
     ensures { result ≡ code_of (look_at text.now at) }
 {
-    let Look::Char(c, _) = utf8::look_at(text, at) else {
+    let Some((c, _)) = utf8::look_at(text, at) else {
         return 0x110000;
     };
     c
@@ -220,12 +217,10 @@ fn word(book: &[u8], text: &[u8], start: Cursor) -> Found
     requires { good book.now ≡ true }
     ensures { result ≡ word_of (identify_of text.now book.now start) }
 {
-    let identified = identifier::scan::identify(book, text, start);
-    let Identified::Found(word) = identified else {
-        return Found::Wrong(identified.fault());
-    };
-    let end = word.cursor;
-    Found::Part(end, word.kind, word.token)
+    match identifier::scan::identify(book, text, start) {
+        Ok(word) => Found::Part(word.cursor, word.kind, word.token),
+        Err((fault, _)) => Found::Wrong(fault),
+    }
 }
 
 // A letter or `_`. It is one test, so that `word` is called from one place and drawn in as well.
@@ -257,7 +252,7 @@ pub fn skip(text: &[u8], from: Cursor) -> Cursor
     let mut at = from.at;
     let mut place = from.place;
     loop {
-        let Look::Char(c, width) = utf8::look_at(text, at) else {
+        let Some((c, width)) = utf8::look_at(text, at) else {
             return Cursor { at, place };
         };
         if 0x80 <= c {
@@ -283,7 +278,7 @@ pub fn find(book: &[u8], text: &[u8], from: Cursor) -> Found
 {
     let at = from.at;
     let place = from.place.advanced();
-    let Look::Char(c, width) = utf8::look_at(text, at) else {
+    let Some((c, width)) = utf8::look_at(text, at) else {
         return Found::End;
     };
     let next = Cursor {

@@ -1,4 +1,5 @@
 -- What the arguments of an identifier refuse, for each way out, and the answer then. Assumes nothing.
+use Rattle.identifier.specs.Answer.{refused_at}
 use Prim.Native.Nat.{ℕ, ◌≤◌, ◌<◌}
 use native.Mathlib.Omega.{arith}
 use mathlib.Core.Bool.{Bool, true, false}
@@ -17,7 +18,6 @@ use Rattle.fault.specs.Faults.{fault}
 use Rattle.book.specs.Book.{good, check_of}
 use Rattle.book.proofs.Checks.{check_good}
 use Rattle.identifier.specs.Identifiers.{identify_of, identifier_argument, identifier_of}
-use Rattle.identifier.specs.declared.scan.Identified.TheVariants.{Refused}
 
 -- the arguments, in the order of the questions
 module _ (t : List ℕ) (at : ℕ) (p : Position) (book : List ℕ) where
@@ -53,6 +53,6 @@ module _ (t : List ℕ) (at : ℕ) (p : Position) (book : List ℕ) where
   unfolding identifier_of
   let_in e = rw (eq-eqb (identifier_argument t at p book) 0 e)
 
-  pub refused : (identifier_argument t at p book ≡ 0 → ⊥) → identifier_of t at p book ≡ Refused (fault (identifier_argument t at p book) p) (cursor at p)
+  pub refused : (identifier_argument t at p book ≡ 0 → ⊥) → identifier_of t at p book ≡ refused_at (fault (identifier_argument t at p book) p) (cursor at p)
   unfolding identifier_of
   refused n = rw (ne_eqb (identifier_argument t at p book) 0 n)

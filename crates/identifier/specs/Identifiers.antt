@@ -9,14 +9,13 @@
 -- | `_a1`                            | name                           |
 -- | `_1`, `__`, `éa`                 | 8, with the whole text         |
 -- | nothing                          | 3                              |
-use Rattle.std.specs.Prelude.{ℕ, ◌+◌, ◌-◌, eqb, leb, length, get_or, take, drop}
+use Rattle.std.specs.Prelude.{ℕ, ◌+◌, ◌-◌, eqb, leb, length, get_or, take, drop, None, Ok, Some}
 use Rattle.basis.specs.Types.{Text, Bytes, Offset}
 use Rattle.basis.specs.Pick.{pick, either, isnt}
 use Rattle.position.specs.Place.{on_line}
 use Rattle.position.specs.declared.Position.{Position}
 use Rattle.utf8.specs.Table.{look_at}
-use Rattle.utf8.specs.declared.Look.{Look}
-use Rattle.utf8.specs.declared.Look.TheVariants as look
+use Rattle.utf8.specs.Looks.{Look}
 use Rattle.classes.specs.Class.{is_id_first_alphabetic}
 use Rattle.chars.specs.Cursors.{cursor}
 use Rattle.door.specs.Door.{door_of}
@@ -27,15 +26,13 @@ use Rattle.fault.specs.Faults.{part, fault, malformed_identifier}
 use Rattle.entry.specs.Kinds.{name, keyword, symbol, reserved}
 use Rattle.keywords.specs.Lookup.{lookup_of}
 use Rattle.token.specs.Tokens as Token
-use Rattle.token.specs.declared.Lookup.{Lookup}
-use Rattle.token.specs.declared.Lookup.TheVariants.{Some, None}
+use Rattle.token.specs.Lookups.{Lookup}
 use Rattle.book.specs.Book.{check_of}
+use Rattle.std.specs.Option.{is_some}
 use Rattle.book_lookup.specs.Lookup.{reserved_of}
 use Rattle.identifier.specs.Valid.{is_valid_identifier}
-use Rattle.identifier.specs.declared.scan.Class.{Class}
-use Rattle.identifier.specs.declared.scan.Class.TheVariants.{Is, Malformed}
-use Rattle.identifier.specs.declared.scan.Identified.{Identified}
-use Rattle.identifier.specs.declared.scan.Identified.TheVariants.{Found, Refused}
+use Rattle.identifier.specs.Answer.{Class, classed, refused_at}
+use Rattle.identifier.specs.Answer.{Identified}
 
 -- the kind of a listed word: a keyword is of letters, and any other is a symbol
 unfoldable pub listed_kind : Text → ℕ
@@ -43,12 +40,12 @@ listed_kind w = pick (is_id_first_alphabetic (get_or w 0 0)) keyword symbol
 
 -- what no list has: a name, or malformed
 unfoldable pub unlisted : Text → Class
-unlisted w = pick (is_valid_identifier w) (Is name Token.Identifier) Malformed
+unlisted w = pick (is_valid_identifier w) (classed name Token.Identifier) None
 
 -- keyword before reserved before validity
 unfoldable pub class_in : Bytes → Text → Lookup → Class
-class_in book w (Some t) = Is (listed_kind w) t
-class_in book w None = pick (reserved_of book w).found (Is reserved Token.Reserved) (unlisted w)
+class_in book w (Some t) = classed (listed_kind w) t
+class_in book w None = pick (is_some (reserved_of book w)) (classed reserved Token.Reserved) (unlisted w)
 
 -- what a text is, under a book
 unfoldable pub class_of : Bytes → Text → Class
@@ -56,8 +53,8 @@ class_of book w = class_in book w (lookup_of w)
 
 -- the answer: a word; or 8 at the start, about the whole text
 unfoldable pub identified_as : Cursor → Cursor → Class → Identified
-identified_as s e (Is k t) = Found (record { kind = k; token = t; cursor = e })
-identified_as s e Malformed = Refused (malformed_identifier s.place (part s.at (e.at - s.at))) e
+identified_as s e (Some (k, t)) = Ok (record { kind = k; token = t; cursor = e })
+identified_as s e None = refused_at (malformed_identifier s.place (part s.at (e.at - s.at))) e
 
 -- the text between two cursors
 abbrev pub text_between : Text → Cursor → Cursor → Text
@@ -69,8 +66,8 @@ spanned t book s e = identified_as s e (class_of book (text_between t s e))
 
 -- the first character is taken, whichever it is, and its place is the one given; none there is 3
 unfoldable pub identified_from : Text → Bytes → Cursor → Look → Identified
-identified_from t book s (look.Char c w) = spanned t book s (stretch_end Stretch.Word t (cursor (s.at + w) s.place))
-identified_from t book s look.End = Refused (fault 3 s.place) s
+identified_from t book s (Some (c, w)) = spanned t book s (stretch_end Stretch.Word t (cursor (s.at + w) s.place))
+identified_from t book s None = refused_at (fault 3 s.place) s
 
 -- the identifier that begins at a cursor, under a good book
 unfoldable pub identify_of : Text → Bytes → Cursor → Identified
@@ -84,4 +81,4 @@ identifier_argument t at p book =
 
 -- the whole answer of the entry; what the arguments refuse is reported at the place given
 unfoldable pub identifier_of : Text → Offset → Position → Bytes → Identified
-identifier_of t at p book = pick (eqb (identifier_argument t at p book) 0) (identify_of t book (cursor at p)) (Refused (fault (identifier_argument t at p book) p) (cursor at p))
+identifier_of t at p book = pick (eqb (identifier_argument t at p book) 0) (identify_of t book (cursor at p)) (refused_at (fault (identifier_argument t at p book) p) (cursor at p))

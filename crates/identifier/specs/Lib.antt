@@ -1,3 +1,4 @@
-pub mod Valid
+pub mod Answer
 pub mod Identifiers
 pub mod Told
+pub mod Valid

@@ -1,13 +1,11 @@
 -- Document 01's number and values for each case of an identifier's scan.
-use Rattle.std.specs.Prelude.{ℕ}
+use Rattle.std.specs.Prelude.{ℕ, Err, Ok}
 use Rattle.position.specs.Place.{none}
 use Rattle.position.specs.declared.Position.{Position}
-use Rattle.fault.specs.Faults.{part, fault}
-use Rattle.fault.specs.declared.Fault.{Fault}
+use Rattle.fault.specs.Faults.{part}
 use Rattle.fault.specs.declared.Part.{Part}
 use Rattle.chars.specs.declared.cursor.Cursor.{Cursor}
-use Rattle.identifier.specs.declared.scan.Identified.{Identified}
-use Rattle.identifier.specs.declared.scan.Identified.TheVariants.{Found, Refused}
+use Rattle.identifier.specs.Answer.{Identified}
 
 -- what a scan tells: the refusal's number, 0 for none, the place and the part reported with it; the kind and the token of the word; the offset and position reached
 pub record Told : Type 0 where
@@ -20,10 +18,5 @@ pub record Told : Type 0 where
 
 -- the values of each case; a refusal has no kind and no token
 unfoldable pub told : Identified → Told
-told (Found w) = record { number = 0; place = none; about = part 0 0; kind = w.kind; token = w.token; cursor = w.cursor }
-told (Refused f c) = record { number = f.number; place = f.place; about = f.part; kind = 0; token = 0; cursor = c }
-
--- the fault that it tells; of a word number 0, at no place
-unfoldable pub identified_fault : Identified → Fault
-identified_fault (Found w) = fault 0 none
-identified_fault (Refused f c) = f
+told (Ok w) = record { number = 0; place = none; about = part 0 0; kind = w.kind; token = w.token; cursor = w.cursor }
+told (Err (f, c)) = record { number = f.number; place = f.place; about = f.part; kind = 0; token = 0; cursor = c }

@@ -37,5 +37,5 @@ pub fn parse_identifier_token(text: &[u8], at: usize, place: Position, book: &[u
     if number == 0 {
         return scan::identify(book, text, Cursor { at, place });
     }
-    Identified::Refused(Fault::at(number, place), Cursor { at, place })
+    Err((Fault::at(number, place), Cursor { at, place }))
 }

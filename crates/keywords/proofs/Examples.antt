@@ -1,10 +1,10 @@
 -- Worked examples of the definitions, under one theorem. Assumes nothing.
+use Rattle.std.specs.Prelude.{None, Some}
 use mathlib.Core.Path.{◌≡◌, refl}
 use mathlib.Core.List.{[]}
 use Rattle.basis.specs.Words.{word, begins}
 use Rattle.token.specs.Tokens as Token
 use Rattle.token.specs.Keywords.{keywords}
-use Rattle.token.specs.declared.Lookup.TheVariants.{Some, None}
 use Rattle.keywords.specs.Lookup.{same_text, lookup_in, lookup_of}
 
 pub record Worked : Type 0 where

@@ -1,4 +1,5 @@
 -- The lookup, as a walk over the tokens whose texts begin with the text's first byte, if one of them is as long. Assumes nothing.
+use Rattle.std.specs.Prelude.{None, Some}
 use Prim.Native.Nat.{ℕ, zero, suc, zero-le, ◌+◌, ◌/◌, ◌%◌, ◌^◌, ◌≤◌, ◌<◌}
 use native.Mathlib.Omega.{arith}
 use mathlib.Core.Bool.{Bool, true, false}
@@ -15,7 +16,6 @@ use Rattle.basis.proofs.Cases.{both_no, true_left, true_right}
 use Rattle.token.specs.Tokens as Token
 use Rattle.token.specs.Tokens.{among_tokens}
 use Rattle.token.specs.Keywords.{KeywordEntry, keywords, text_in}
-use Rattle.token.specs.declared.Lookup.TheVariants.{Some, None}
 use Rattle.token.specs.Spelt.{number_from, word_number, spelt_of, starts, first_in, first_token, lengths_in, bits_up_to, lengths_of, places_behind, next_token}
 use Rattle.token.proofs.word_table.Numbers.{Bytes, bytes, bytes_are, number_same}
 use Rattle.keywords.specs.Lookup.{same_text, lookup_in, lookup_of}

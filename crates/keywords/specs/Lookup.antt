@@ -1,11 +1,10 @@
 -- `lookup_symbol_from_syntax` of `types/token.rs`. Document 01: "A text is a keyword or symbol exactly if it stands as a non-empty entry of `KEYWORDS_LIST`."
-use Rattle.std.specs.Prelude.{Bool, List, [], ◌∷◌, eqb, length}
+use Rattle.std.specs.Prelude.{Bool, List, [], ◌∷◌, eqb, length, None, Some}
 use Rattle.basis.specs.Types.{Text}
 use Rattle.basis.specs.Pick.{pick, both}
 use Rattle.basis.specs.Words.{begins}
 use Rattle.token.specs.Keywords.{KeywordEntry, keywords}
-use Rattle.token.specs.declared.Lookup.{Lookup}
-use Rattle.token.specs.declared.Lookup.TheVariants.{Some, None}
+use Rattle.token.specs.Lookups.{Lookup}
 
 -- two texts are the same: equally long, and one begins with the other
 unfoldable pub same_text : Text → Text → Bool

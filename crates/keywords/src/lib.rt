@@ -5,8 +5,8 @@ ghost use Rattle.std.specs.Prelude.{◌≡◌, ◌≤◌, length};
 ghost use Rattle.token.specs.Spelt.{word_number};
 ghost use Rattle.keywords.specs.Lookup.{lookup_of};
 
-use token::Lookup;
 use token::tokens::EOF;
+use token::word_table;
 
 // No listed text is longer, and so a machine's word holds each as a number.
 const LONGEST: usize = 8;
@@ -16,11 +16,9 @@ fn number_of(text: &[u8]) -> u64
     requires { length text.now ≤ 8 }
     ensures { result ≡ word_number text.now }
 {
-    let mut v: u64 = 0;
-    let mut i = 0;
-    while i < text.len() {
-        v = v * 256 + text[i] as u64;
-        i += 1;
+    let mut v = 0;
+    for b in text {
+        v = v * 256 + u64::from(*b);
     }
     v
 }
@@ -28,26 +26,22 @@ fn number_of(text: &[u8]) -> u64
 // The token of a keyword or symbol; none for any other text. Most names are none because no listed
 // text has their first byte and their length. For the others it walks the tokens whose texts begin
 // with that byte, four at most, and compares numbers.
-pub fn lookup_symbol_from_syntax(text: &[u8]) -> Lookup
+pub fn lookup_symbol_from_syntax(text: &[u8]) -> Option<u8>
     ensures { result ≡ lookup_of text.now }
 {
-    if text.len() == 0 {
-        return Lookup::None;
+    let [first, ..] = text else {
+        return None;
+    };
+    if LONGEST < text.len() || (word_table::lengths_of(*first) >> text.len()) % 2 == 0 {
+        return None;
     }
-    if LONGEST < text.len() {
-        return Lookup::None;
-    }
-    let b = text[0];
-    if (token::word_table::lengths_of(b) >> text.len() as u32) % 2 == 0 {
-        return Lookup::None;
-    }
-    let mut token = token::word_table::first_of(b);
     let v = number_of(text);
+    let mut token = word_table::first_of(*first);
     while token != EOF {
-        if token::word_table::spelt(token) == v {
-            return Lookup::Some(token);
+        if word_table::spelt(token) == v {
+            return Some(token);
         }
-        token = token::word_table::next_of(token);
+        token = word_table::next_of(token);
     }
-    Lookup::None
+    None
 }

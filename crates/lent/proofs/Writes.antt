@@ -1,4 +1,5 @@
 -- A text written at the front of lent memory, for each way out: it has room, or it has none. Assumes nothing.
+use Rattle.std.specs.Prelude.{Err, Ok}
 use Prim.Native.Nat.{ℕ, ◌≤◌, ◌<◌}
 use native.Mathlib.Omega.{arith}
 use native.Mathlib.Nat.{zero-add}
@@ -9,11 +10,10 @@ use borrow.Author.Tests.{lt-ltb, le-ltb}
 use Rattle.basis.specs.Store.{stored, after, over}
 use Rattle.basis.proofs.Stores.{stored_whole, after_whole, sets_front}
 use Rattle.lent.specs.Written.{written_of, left_of}
-use Rattle.lent.specs.declared.Written.TheVariants.{Done, Refused}
 
 module _ (text memory : List ℕ) where
   module _ (h : length memory < length text) where
-    pub refused : written_of text memory ≡ Refused 9
+    pub refused : written_of text memory ≡ Err 9
     unfolding written_of
     refused = rw (lt-ltb _ _ h)
 
@@ -22,7 +22,7 @@ module _ (text memory : List ℕ) where
     untouched = rw (lt-ltb _ _ h)
 
   module _ (h : length text ≤ length memory) where
-    pub done : written_of text memory ≡ Done (length text)
+    pub done : written_of text memory ≡ Ok (length text)
     unfolding written_of
     done = rw (le-ltb _ _ h)
 
@@ -31,8 +31,8 @@ module _ (text memory : List ℕ) where
     written = rw (le-ltb _ _ h)
 
     -- as a copy to the front tells it
-    pub copied : (r : ℕ) → r ≡ after memory 0 text → Done r ≡ written_of text memory
-    copied r e = ap Done (e ∙ after_whole memory 0 text (omega arith) ∙ zero-add (length text)) ∙ sym done
+    pub copied : (r : ℕ) → r ≡ after memory 0 text → Ok r ≡ written_of text memory
+    copied r e = ap Ok (e ∙ after_whole memory 0 text (omega arith) ∙ zero-add (length text)) ∙ sym done
 
     pub kept : (l : List ℕ) → l ≡ stored memory 0 text → l ≡ left_of text memory
     kept l e = e ∙ stored_whole memory 0 text (omega arith) ∙ sets_front memory text h ∙ sym written

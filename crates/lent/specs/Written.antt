@@ -1,19 +1,18 @@
 -- A text written at the front of lent memory: what is answered, and what the memory holds then. Document 01, "A refused scan or write leaves its buffer untouched".
-use Rattle.std.specs.Prelude.{ℕ, ltb, length}
+use Rattle.std.specs.Prelude.{ℕ, ltb, length, Err, Ok}
 use Rattle.basis.specs.Types.{Text, Bytes}
 use Rattle.basis.specs.Pick.{pick}
 use Rattle.basis.specs.Store.{over}
-use Rattle.lent.specs.declared.Written.{Written}
-use Rattle.lent.specs.declared.Written.TheVariants.{Done, Refused}
+use Rattle.lent.specs.Answer.{Written}
 
 -- document 01's number of an answer; 0 where the text was written
 abbrev pub written_number : Written → ℕ
-written_number (Done n) = 0
-written_number (Refused n) = n
+written_number (Ok n) = 0
+written_number (Err n) = n
 
 -- the text's length, or 9 where the memory is shorter than the text
 unfoldable pub written_of : Text → Bytes → Written
-written_of text memory = pick (ltb (length memory) (length text)) (Refused 9) (Done (length text))
+written_of text memory = pick (ltb (length memory) (length text)) (Err 9) (Ok (length text))
 
 -- the text and the old rest, or the memory as it was
 unfoldable pub left_of : Text → Bytes → Bytes

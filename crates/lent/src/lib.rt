@@ -1,15 +1,18 @@
 // Memory that a caller lends: bytes go into it whole or not at all.
 #![tactic(auto)]
 
-ghost use Rattle.std.specs.Prelude.{◌≡◌, replicate};
+ghost use Rattle.std.specs.Prelude.{◌≡◌, ◌+◌, ◌≤◌, SomeIff, length, replicate};
 ghost use Rattle.basis.specs.Store.{stored, after};
 ghost use Rattle.lent.specs.Written.{written_of, left_of};
 
 // How a write went: how many bytes were written, or the refusal's number.
-#[derive(Clone, Copy)]
-pub enum Written {
-    Done(usize),
-    Refused(u8),
+pub type Written = Result<usize, u8>;
+
+// The index after n bytes from an index on, where they have room.
+pub fn room(out: &[u8], at: usize, n: usize) -> Option<usize>
+    ensures { SomeIff result (at + n ≤ length out.now) (at + n) }
+{
+    at.checked_add(n).filter(|end| *end <= out.len())
 }
 
 // Puts the bytes `from` in at an index, and answers the index after them. Where they have no room
@@ -18,20 +21,11 @@ pub fn copy(from: &[u8], out: &mut [u8], at: usize) -> usize
     ensures value { result ≡ after out.old at from.now }
     ensures out_after { out.new ≡ stored out.old at from.now }
 {
-    if out.len() < at {
+    let Some(end) = room(out, at, from.len()) else {
         return at;
-    }
-    if out.len() - at < from.len() {
-        return at;
-    }
-    let mut w = at;
-    let mut i = 0;
-    while i < from.len() {
-        out[w] = from[i];
-        w += 1;
-        i += 1;
-    }
-    w
+    };
+    out[at..end].copy_from_slice(from);
+    end
 }
 
 // The same for n bytes that are all b.
@@ -39,20 +33,11 @@ pub fn fill(b: u8, n: usize, out: &mut [u8], at: usize) -> usize
     ensures value { result ≡ after out.old at (replicate n b) }
     ensures out_after { out.new ≡ stored out.old at (replicate n b) }
 {
-    if out.len() < at {
+    let Some(end) = room(out, at, n) else {
         return at;
-    }
-    if out.len() - at < n {
-        return at;
-    }
-    let mut w = at;
-    let mut left = n;
-    while 0 < left {
-        out[w] = b;
-        w += 1;
-        left -= 1;
-    }
-    w
+    };
+    out[at..end].fill(b);
+    end
 }
 
 // Puts a text at the front of what is lent; too little room is 9, and nothing is written.
@@ -61,7 +46,7 @@ pub fn write(text: &[u8], out: &mut [u8]) -> Written
     ensures out_after { out.new ≡ left_of text.now out.old }
 {
     if out.len() < text.len() {
-        return Written::Refused(9);
+        return Err(9);
     }
-    Written::Done(copy(text, out, 0))
+    Ok(copy(text, out, 0))
 }

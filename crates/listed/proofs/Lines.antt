@@ -3,9 +3,8 @@ use Prim.Native.Nat.{ℕ, zero, suc, ◌+◌, ◌-◌, ◌*◌, ◌/◌, ◌%◌
 use native.Mathlib.Omega.{arith}
 use mathlib.Core.List.{List, [], ◌∷◌, ◌++◌}
 use mathlib.Core.Path.{◌≡◌, refl, sym, ◌∙◌}
-use lib.ListN.{length, get_or, take, drop}
-use lib.Seq.{get_or-drop, drop-drop}
-use native.Mathlib.Nat.{add-zero}
+use lib.ListN.{length, get_or, take, drop, length-drop}
+use lib.Seq.{drop-drop, take-length}
 use Rattle.basis.specs.Words.{word}
 use Rattle.basis.proofs.Bytes.{here, past}
 use borrow.Author.Tests.{le-leb, lt-leb}
@@ -105,15 +104,18 @@ pub line_put : (t : Writing) (p : Position) (k : ℕ) (bs : List ℕ) {u : Writi
 unfolding puts token_line
 line_put t p k bs e = e ∙ sym (puts_append (put (put (put (put t (debug_of p)) (word " ")) (kind_word k)) (word " ")) (hex_of bs) (word "\n" ∷ []))
 
--- the entry whose numbers begin at an index
-module _ (t ls es : List ℕ) (i : ℕ) (x : Writing) {u : Writing} {l c : ℕ} {p : Position} {bs : List ℕ} where
-  pub entry_put : l ≡ min (get_or es (i + 1) 0) 65535 → c ≡ min (get_or es (i + 2) 0) 65535 → p ≡ given l c
-      → bs ≡ token_bytes t ls (get_or es i 0) (get_or es (i + 3) 0) (get_or es (i + 4) 0)
-      → u ≡ puts x (token_line p (get_or es i 0) bs)
-      → u ≡ puts x (entry_line t ls (drop i es))
+-- the entry whose numbers stand in front
+module _ (t ls es : List ℕ) (x : Writing) {u : Writing} {l c : ℕ} {p : Position} {bs : List ℕ} where
+  pub entry_put : l ≡ min (get_or es 1 0) 65535 → c ≡ min (get_or es 2 0) 65535 → p ≡ given l c
+      → bs ≡ token_bytes t ls (get_or es 0 0) (get_or es 3 0) (get_or es 4 0)
+      → u ≡ puts x (token_line p (get_or es 0 0) bs)
+      → u ≡ puts x (entry_line t ls es)
   unfolding entry_line
-  entry_put a b q r e =
-      rw (get_or-drop i es 0 0, get_or-drop i es 1 0, get_or-drop i es 2 0, get_or-drop i es 3 0, get_or-drop i es 4 0, add-zero i, ← a, ← b, ← q, ← r) e
+  entry_put a b q r e = rw (← a, ← b, ← q, ← r) e
+
+-- the rest of some numbers is all of it
+pub take_rest : (l : List ℕ) (i : ℕ) → take (length l - i) (drop i l) ≡ drop i l
+take_rest l i = rw (← length-drop i l) (take-length (drop i l))
 
 -- so many entries less some: the next one and the rest, or none
 module _ (t ls es : List ℕ) (k n : ℕ) where

@@ -1,17 +1,17 @@
 -- A text put together piece by piece. Assumes nothing.
+use Rattle.std.specs.Prelude.{Err, Ok}
 use Prim.Native.Nat.{ℕ, ◌+◌, ◌-◌, ◌≤◌, ◌<◌}
 use native.Mathlib.Omega.{arith}
 use mathlib.Core.List.{List, [], ◌∷◌, ◌++◌}
-use mathlib.Core.Path.{◌≡◌, refl, sym, ap, ◌∙◌}
+use mathlib.Core.Path.{◌≡◌, refl, sym, ap, ◌∙◌, subst}
 use mathlib.Core.Logic.{⊎_elim}
 use lib.ListN.{length, take, drop, length-take, length-drop, take-append-drop}
 use borrow.Rule.Slice.PartMut.{put_mid}
 use Rattle.basis.specs.Store.{stored, after}
 use Rattle.basis.proofs.Bounds.{split}
-use Rattle.basis.proofs.Stores.{part_sets, sets_front, stored_whole, after_whole, stored_none, after_none}
+use Rattle.basis.proofs.Stores.{part_sets, sets_front, stored_whole, after_whole, stored_none, after_none, length_stored}
 use Rattle.lent.specs.Written.{written_of, left_of}
-use Rattle.lent.specs.declared.Written.{Written}
-use Rattle.lent.specs.declared.Written.TheVariants.{Done, Refused}
+use Rattle.lent.specs.Answer.{Written}
 use Rattle.lent.proofs.Writes.{refused, untouched, done, written}
 use Rattle.listed.specs.Texts.{Writing, writing, put, puts}
 
@@ -26,6 +26,23 @@ pub puts_append : (t : Writing) (a b : List (List ℕ)) → puts t (a ++ b) ≡ 
 unfolding puts
 puts_append t [] b = refl
 puts_append t (xs ∷ a) b = puts_append (put t xs) a b
+
+-- what is put in ends within the memory
+after_within : (l : List ℕ) (i : ℕ) (xs : List ℕ) → i ≤ length l → after l i xs ≤ length (stored l i xs)
+after_within l i xs h =
+    rw (length_stored l i xs)
+    (⊎_elim
+    (λ (g : length l < i + length xs). rw (after_none l i xs g) h)
+    (λ (g : i + length xs ≤ length l). rw (after_whole l i xs g) g)
+    (split (length l) (i + length xs)))
+
+pub puts_within : (t : Writing) (xss : List (List ℕ)) → t.next ≤ length t.memory → (puts t xss).next ≤ length (puts t xss).memory
+unfolding put puts
+puts_within t [] h = h
+puts_within t (xs ∷ xss) h = puts_within (put t xs) xss (after_within t.memory t.next xs h)
+
+pub ended_within : (l : List ℕ) (xss : List (List ℕ)) {l' : List ℕ} {r : ℕ} → writing l' r ≡ puts (writing l 0) xss → r ≤ length l'
+ended_within l xss e = subst (λ (w : Writing). w.next ≤ length w.memory) (sym e) (puts_within (writing l 0) xss (omega arith))
 
 -- no more pieces; and some, by the first
 pub puts_none : (t : Writing) → puts t [] ≡ t
@@ -46,8 +63,8 @@ module _ {t u v : Writing} (e : u ≡ t) where
 
 -- a piece written into the memory behind an index
 abbrev pub next_of : ℕ → Written → ℕ
-next_of i (Done n) = i + n
-next_of i (Refused n) = i
+next_of i (Ok n) = i + n
+next_of i (Err n) = i
 
 module _ (l : List ℕ) (i : ℕ) (xs : List ℕ) (h : i ≤ length l) where
   abbrev k : ℕ

@@ -1,5 +1,5 @@
 -- The listing of a script: document 01, "Listing program", and "Bytes are lowercase hex, `-` for none; positions as the source's Debug form. A refused run ends `stop N place`; input past the buffer prints only `stop 2 1`".
-use Rattle.std.specs.Prelude.{ℕ, zero, suc, ◌+◌, ◌/◌, ◌%◌, min, List, [], ◌∷◌, ◌++◌, leb, ltb, length, get_or, take, drop, replicate}
+use Rattle.std.specs.Prelude.{ℕ, zero, suc, ◌+◌, ◌/◌, ◌%◌, min, List, [], ◌∷◌, ◌++◌, leb, ltb, length, get_or, take, drop, replicate, Err, Ok}
 use Rattle.basis.specs.Types.{Bytes, Offset, Text}
 use Rattle.basis.specs.Pick.{pick, both}
 use Rattle.basis.specs.Words.{word}
@@ -9,8 +9,7 @@ use Rattle.display.specs.Decimal.{decimal}
 use Rattle.display.specs.Forms.{debug_of}
 use Rattle.reading.specs.Reading.{Left, entries}
 use Rattle.entry.specs.Entries.{numbers_of}
-use Rattle.reading.specs.declared.Ending.{Ending}
-use Rattle.reading.specs.declared.Ending.TheVariants.{End, Stop}
+use Rattle.reading.specs.Endings.{Ending}
 use Rattle.entry.specs.Kinds as Kind
 use Rattle.script.specs.Rules.{document01}
 use Rattle.run.specs.Run.{bounds_of, run_of, literals_of, entries_of}
@@ -80,8 +79,8 @@ entries_lines t ls (suc n) es = entry_line t ls es ++ entries_lines t ls n (drop
 
 -- the last line
 unfoldable pub ending_line : Ending → List (List ℕ)
-ending_line (End p) = word "end " ∷ debug_of p ∷ word "\n" ∷ []
-ending_line (Stop f) = word "stop " ∷ decimal f.number ∷ word " " ∷ debug_of f.place ∷ word "\n" ∷ []
+ending_line (Ok p) = word "end " ∷ debug_of p ∷ word "\n" ∷ []
+ending_line (Err f) = word "stop " ∷ decimal f.number ∷ word " " ∷ debug_of f.place ∷ word "\n" ∷ []
 
 -- all lines of a run that leaves this, where the memory lent for literal bytes and for entries was ls and es
 unfoldable pub left_lines : Text → Bytes → List ℕ → Left → List (List ℕ)

@@ -1,4 +1,5 @@
 -- Demand 3 for one literal, over any reading. Assumes nothing.
+use Rattle.std.specs.Prelude.{Err}
 use Prim.Native.Nat.{ℕ, ◌+◌, ◌≤◌}
 use native.Mathlib.Omega.{arith}
 use native.Mathlib.Nat.{zero-add, add-zero}
@@ -38,24 +39,27 @@ use Rattle.literal.specs.Limits.{
 }
 use Rattle.literal.specs.declared.End.{End}
 use Rattle.literal.specs.declared.Refusal.{Refusal}
-use Rattle.literal.specs.declared.Scanned.{Scanned}
-use Rattle.literal.specs.declared.Scanned.TheVariants.{Accepted, Refused}
+use Rattle.literal.specs.Scans.{Scanned, accepted_as}
 
-pub not_accepted {ℓ} : {A : Type ℓ} {f : Refusal} {e : End} {n : ℕ} → Refused f ≡ Accepted e n → A
+pub not_accepted {ℓ} : {A : Type ℓ} {f : Refusal} {e : End} {n : ℕ} → Err f ≡ accepted_as e n → A
 not_accepted h = absurd (let z : ◌≡◌ {A = ℕ} 0 1 = cc in omega arith)
 
+-- the end and the length of an accepted scan
+pub accepted_parts : {x e : End} {n m : ℕ} → accepted_as x n ≡ accepted_as e m → (x ≡ e) × (n ≡ m)
+accepted_parts {x} {e} {n} {m} h = let p : ◌≡◌ {A = End × ℕ} (x, n) (e, m) = cc in (ap (λ (z : End × ℕ). z.0) p, ap (λ (z : End × ℕ). z.1) p)
+
 -- ---- an accepted reading
-pub accepted_from : (full : Refusal) (limit room n : ℕ) (t : Trace) (e : End) (m : ℕ) → n ≤ room → cut full limit room n t ≡ Accepted e m
+pub accepted_from : (full : Refusal) (limit room n : ℕ) (t : Trace) (e : End) (m : ℕ) → n ≤ room → cut full limit room n t ≡ accepted_as e m
     → (m ≡ n + length (bytes t)) × (m ≤ room) × (final t ≡ good e)
 unfolding cut bytes final
-accepted_from full limit room n (ends x) e m l = λ h. let q : m ≡ n = cc in let p : x ≡ e = cc in (omega arith, omega arith, ap good p)
+accepted_from full limit room n (ends x) e m l = λ h. let p = accepted_parts h in let q : m ≡ n = sym p.1 in (omega arith, omega arith, ap good p.0)
 accepted_from full limit room n (fails f) e m l = λ h. not_accepted h
 accepted_from full limit room n (adds bs t) e m l =
-    pick_cases (λ (a : Scanned). a ≡ Accepted e m → (m ≡ n + length (bs ++ bytes t)) × (m ≤ room) × (final t ≡ good e)) (leb (n + length bs) room) _ _
+    pick_cases (λ (a : Scanned). a ≡ accepted_as e m → (m ≡ n + length (bs ++ bytes t)) × (m ≤ room) × (final t ≡ good e)) (leb (n + length bs) room) _ _
     (λ q h. let r = accepted_from full limit room (n + length bs) t e m (leb-true _ _ q) h in (omega (arith, length-append bs (bytes t)), r.1, r.2))
     (λ q h. not_accepted h)
 accepted_from full limit room n (checks f t) e m l =
-    pick_cases (λ (a : Scanned). a ≡ Accepted e m → (m ≡ n + length (bytes t)) × (m ≤ room) × (final t ≡ good e)) (passes limit n) _ _
+    pick_cases (λ (a : Scanned). a ≡ accepted_as e m → (m ≡ n + length (bytes t)) × (m ≤ room) × (final t ≡ good e)) (passes limit n) _ _
     (λ q h. not_accepted h)
     (λ q h. accepted_from full limit room n t e m l h)
 
@@ -98,11 +102,11 @@ module _ (full : Refusal) (l m r s : ℕ) (start : Position) (nine : full.fault.
   recurs n (ends e) sv = λ x y. refl
   recurs n (fails f) sv = λ x y. refl
   recurs n (adds bs t) sv =
-      pick_cases (λ (a : Scanned). (refusal_number a ≡ 7 → ⊥) → (refusal_number a ≡ 9 → ⊥) → pick (leb (n + length bs) s) (cut full m s (n + length bs) t) (Refused full) ≡ a) (leb (n + length bs) r) _ _
+      pick_cases (λ (a : Scanned). (refusal_number a ≡ 7 → ⊥) → (refusal_number a ≡ 9 → ⊥) → pick (leb (n + length bs) s) (cut full m s (n + length bs) t) (Err full) ≡ a) (leb (n + length bs) r) _ _
       (λ q x y. rw (le-leb (n + length bs) s (omega (arith, leb-true (n + length bs) r q))) (recurs (n + length bs) t sv x y))
       (λ q x y. absurd (y nine))
   recurs n (checks f t) sv =
-      pick_cases (λ (a : Scanned). (refusal_number a ≡ 7 → ⊥) → (refusal_number a ≡ 9 → ⊥) → pick (passes m n) (Refused f) (cut full m s n t) ≡ a) (passes l n) _ _
+      pick_cases (λ (a : Scanned). (refusal_number a ≡ 7 → ⊥) → (refusal_number a ≡ 9 → ⊥) → pick (passes m n) (Err f) (cut full m s n t) ≡ a) (passes l n) _ _
       (λ q x y. absurd (x (ap (λ (g : Fault). g.number) sv.0)))
       (λ q x y. rw (looser l m n loose q) (recurs n t sv.1 x y))
 
@@ -111,28 +115,28 @@ recurs_whole full l m r s start t nine sv loose more x y = recurs full l m r s s
 
 -- an accepted reading stays accepted
 module _ (full : Refusal) (l m r s : ℕ) (loose : Looser l m) (more : r ≤ s) (e : End) (k : ℕ) where
-  accepted : (n : ℕ) (t : Trace) → cut full l r n t ≡ Accepted e k → cut full m s n t ≡ Accepted e k
+  accepted : (n : ℕ) (t : Trace) → cut full l r n t ≡ accepted_as e k → cut full m s n t ≡ accepted_as e k
   unfolding cut
   accepted n (ends x) = λ h. h
   accepted n (fails f) = λ h. not_accepted h
   accepted n (adds bs t) =
-      pick_cases (λ (a : Scanned). a ≡ Accepted e k → pick (leb (n + length bs) s) (cut full m s (n + length bs) t) (Refused full) ≡ Accepted e k) (leb (n + length bs) r) _ _
+      pick_cases (λ (a : Scanned). a ≡ accepted_as e k → pick (leb (n + length bs) s) (cut full m s (n + length bs) t) (Err full) ≡ accepted_as e k) (leb (n + length bs) r) _ _
       (λ q h. rw (le-leb (n + length bs) s (omega (arith, leb-true (n + length bs) r q))) (accepted (n + length bs) t h))
       (λ q h. not_accepted h)
   accepted n (checks f t) =
-      pick_cases (λ (a : Scanned). a ≡ Accepted e k → pick (passes m n) (Refused f) (cut full m s n t) ≡ Accepted e k) (passes l n) _ _
+      pick_cases (λ (a : Scanned). a ≡ accepted_as e k → pick {A = Scanned} (passes m n) (Err f) (cut full m s n t) ≡ accepted_as e k) (passes l n) _ _
       (λ q h. not_accepted h)
       (λ q h. rw (looser l m n loose q) (accepted n t h))
 
-pub stays_accepted : (full : Refusal) (l m r s : ℕ) (t : Trace) (e : End) (k : ℕ) → Looser l m → r ≤ s → cut full l r 0 t ≡ Accepted e k → cut full m s 0 t ≡ Accepted e k
+pub stays_accepted : (full : Refusal) (l m r s : ℕ) (t : Trace) (e : End) (k : ℕ) → Looser l m → r ≤ s → cut full l r 0 t ≡ accepted_as e k → cut full m s 0 t ≡ accepted_as e k
 stays_accepted full l m r s t e k loose more = accepted full l m r s loose more e k 0 t
 
 -- ---- where a reading is cut
-refusal_is : {f g : Refusal} → Refused f ≡ Refused g → f ≡ g
+refusal_is : {f g : Refusal} → ◌≡◌ {A = Scanned} (Err f) (Err g) → f ≡ g
 refusal_is h = cc
 
 module _ (full : Refusal) (limit room : ℕ) where
-  cuts_refuse : {n : ℕ} {t : Trace} {by : Bound} {f : Refusal} → Cuts full limit room n t by f → cut full limit room n t ≡ Refused f
+  cuts_refuse : {n : ℕ} {t : Trace} {by : Bound} {f : Refusal} → Cuts full limit room n t by f → cut full limit room n t ≡ Err f
   unfolding cut
   cuts_refuse (no_room h) = rw (lt-leb _ _ h)
   cuts_refuse (too_long h) = rw h
@@ -218,12 +222,12 @@ own_refusal start (adds bs t) f sv h = own_refusal start t f sv h
 own_refusal start (checks g t) f sv h = own_refusal start t f sv.1 h
 
 -- an answer by the unlimited rules that is a refusal is one of those
-pub answer_bad : (n : ℕ) (o : Outcome) (f : Refusal) → answer n o ≡ Refused f → o ≡ bad f
+pub answer_bad : (n : ℕ) (o : Outcome) (f : Refusal) → answer n o ≡ Err f → o ≡ bad f
 unfolding answer
 answer_bad n (good e) f h = not_accepted (sym h)
 answer_bad n (bad g) f h = ap bad (refusal_is h)
 
-module _ (full : Refusal) (limit room : ℕ) (start : Position) (t : Trace) (f : Refusal) (nine : full.fault.number ≡ 9) (sv : FairTrace start t) (h : cut full limit room 0 t ≡ Refused f) where
+module _ (full : Refusal) (limit room : ℕ) (start : Position) (t : Trace) (f : Refusal) (nine : full.fault.number ≡ 9) (sv : FairTrace start t) (h : cut full limit room 0 t ≡ Err f) where
   -- it is cut so, or is refused by a rule of its own
   abbrev CutSo : Type 0
   CutSo = ((by : Bound) × Cuts full limit room 0 t by f) ⊎ Own f.fault

@@ -1,4 +1,5 @@
 -- What a literal's reading tells is small, and so is what is cut of it. Assumes nothing.
+use Rattle.std.specs.Prelude.{Err, Ok}
 use Prim.Native.Nat.{ℕ, ◌+◌}
 use native.Mathlib.Omega.{arith}
 use mathlib.Core.List.{List, [], ◌∷◌}
@@ -12,8 +13,7 @@ use Rattle.literal.specs.Trace.{Trace, ends, fails, adds, checks, Yield, added, 
 use Rattle.literal.specs.Cut.{cut}
 use Rattle.literal.specs.Limits.{FairTrace}
 use Rattle.literal.specs.declared.Refusal.{Refusal}
-use Rattle.literal.specs.declared.Scanned.{Scanned}
-use Rattle.literal.specs.declared.Scanned.TheVariants.{Accepted, Refused}
+use Rattle.literal.specs.Scans.{Scanned}
 
 -- of a script of n bytes; what a test of the limit tells is `FairTrace`
 module _ (n : ℕ) where
@@ -31,8 +31,8 @@ module _ (n : ℕ) where
   yields_traced (tested f ∷ ys) t h = yields_traced ys t h
 
   abbrev pub ScannedTells : Scanned → Type 0
-  ScannedTells (Accepted e m) = Unit {0}
-  ScannedTells (Refused f) = Tells n f.fault
+  ScannedTells (Ok (e, m)) = Unit {0}
+  ScannedTells (Err f) = Tells n f.fault
 
   pub cut_tells : (full : Refusal) → Tells n full.fault → (start : Position) → Small start → (limit room k : ℕ) (t : Trace) → FairTrace start t → Traced t → ScannedTells (cut full limit room k t)
   unfolding cut

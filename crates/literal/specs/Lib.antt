@@ -1,5 +1,6 @@
-pub mod Trace
 pub mod Answers
 pub mod Cut
-pub mod Told
 pub mod Limits
+pub mod Scans
+pub mod Told
+pub mod Trace

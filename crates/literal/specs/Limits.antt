@@ -1,5 +1,6 @@
 -- Demand 3 for one literal: what a looser limit and a larger room keep. The statements; their proofs are in proofs/Limits.antt.
-use Rattle.std.specs.Prelude.{ℕ, ◌+◌, ◌≤◌, ◌<◌, true, false, List, ◌⊎◌, ◌≡◌, length}
+use Rattle.literal.specs.Scans.{accepted_as}
+use Rattle.std.specs.Prelude.{ℕ, ◌+◌, ◌≤◌, ◌<◌, true, false, List, ◌⊎◌, ◌≡◌, length, Err}
 use Rattle.position.specs.declared.Position.{Position}
 use Rattle.fault.specs.Faults.{string_too_long, Own}
 use Rattle.literal.specs.Trace.{Trace, ends, fails, adds, checks, bytes, final, good, passes}
@@ -7,7 +8,6 @@ use Rattle.literal.specs.Cut.{cut, answer}
 use Rattle.literal.specs.Told.{refusal_number}
 use Rattle.literal.specs.declared.End.{End}
 use Rattle.literal.specs.declared.Refusal.{Refusal}
-use Rattle.literal.specs.declared.Scanned.TheVariants.{Accepted, Refused}
 
 -- the limit m is nowhere stricter than l: it is none, or it is no smaller
 abbrev pub Looser : ℕ → ℕ → Type 0
@@ -24,7 +24,7 @@ FairTrace start (checks f t) = (f.fault ≡ string_too_long start) × FairTrace 
 abbrev pub AcceptedWhole : Type 0
 AcceptedWhole =
     (full : Refusal) (limit room : ℕ) (t : Trace) (e : End) (n : ℕ)
-    → cut full limit room 0 t ≡ Accepted e n
+    → cut full limit room 0 t ≡ accepted_as e n
     → (n ≡ length (bytes t)) × (n ≤ room) × (final t ≡ good e)
 
 -- within the limit and the room nothing is cut
@@ -62,7 +62,7 @@ pub data Cuts (full : Refusal) (limit room : ℕ) : ℕ → Trace → Bound → 
 
 -- a reading that passes is refused there
 abbrev pub CutThere : Type 0
-CutThere = (full : Refusal) (limit room : ℕ) (t : Trace) (by : Bound) (f : Refusal) → Cuts full limit room 0 t by f → cut full limit room 0 t ≡ Refused f
+CutThere = (full : Refusal) (limit room : ℕ) (t : Trace) (by : Bound) (f : Refusal) → Cuts full limit room 0 t by f → cut full limit room 0 t ≡ Err f
 
 -- one that passes nothing is answered as the unlimited rules say
 abbrev pub UncutElse : Type 0
@@ -77,5 +77,5 @@ CutAtTheFirst =
     (full : Refusal) (limit room : ℕ) (start : Position) (t : Trace) (f : Refusal)
     → full.fault.number ≡ 9
     → FairTrace start t
-    → cut full limit room 0 t ≡ Refused f
+    → cut full limit room 0 t ≡ Err f
     → (f.fault.number ≡ 7 → Cuts full limit room 0 t string_limit f) × (f.fault.number ≡ 9 → Cuts full limit room 0 t literal_room f)

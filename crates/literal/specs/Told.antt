@@ -1,14 +1,12 @@
 -- Document 01's number and values for each case of a scan's answer.
-use Rattle.std.specs.Prelude.{ℕ, Bool, false}
+use Rattle.std.specs.Prelude.{ℕ, Bool, false, Err, Ok}
 use Rattle.position.specs.declared.Position.{Position}
 use Rattle.position.specs.Place.{none}
 use Rattle.fault.specs.declared.Part.{Part}
-use Rattle.fault.specs.declared.Fault.{Fault}
-use Rattle.fault.specs.Faults.{part, fault}
+use Rattle.fault.specs.Faults.{part}
 use Rattle.chars.specs.declared.cursor.Cursor.{Cursor}
 use Rattle.literal.specs.declared.Terminator.{Terminator}
-use Rattle.literal.specs.declared.Scanned.{Scanned}
-use Rattle.literal.specs.declared.Scanned.TheVariants.{Accepted, Refused}
+use Rattle.literal.specs.Scans.{Scanned}
 
 -- what a scan tells: the refusal's number, 0 for none, the place and the part reported with it; the offset and position reached; the first place; what is on record; the body's length; whether `${` ended it
 pub record Told : Type 0 where
@@ -23,7 +21,7 @@ pub record Told : Type 0 where
 
 -- the values of each case; a refusal's first place is NONE
 unfoldable pub told : Scanned → Told
-told (Accepted e n) =
+told (Ok (e, n)) =
     record {
       number = 0;
       place = none;
@@ -34,7 +32,7 @@ told (Accepted e n) =
       len = n;
       interpolated = e.interpolated;
     }
-told (Refused f) =
+told (Err f) =
     record {
       number = f.fault.number;
       place = f.fault.place;
@@ -48,10 +46,5 @@ told (Refused f) =
 
 -- the number alone
 unfoldable pub refusal_number : Scanned → ℕ
-refusal_number (Accepted e n) = 0
-refusal_number (Refused f) = f.fault.number
-
--- the fault that it tells; of an accepted scan number 0, at no place
-unfoldable pub scanned_fault : Scanned → Fault
-scanned_fault (Accepted e n) = fault 0 none
-scanned_fault (Refused f) = f.fault
+refusal_number (Ok (e, n)) = 0
+refusal_number (Err f) = f.fault.number

@@ -1,17 +1,17 @@
 -- Laws of numbers spelt in bytes, for code that writes them one behind the other. Assumes nothing.
+use Rattle.std.specs.Prelude.{Ok}
 use Prim.Native.Nat.{ℕ, zero, suc, ◌+◌, ◌-◌, ◌*◌, ◌/◌, ◌%◌, ◌≤◌, ◌<◌}
 use native.Mathlib.Omega.{arith}
 use native.Mathlib.Nat.{add-zero, zero-mul, suc-mul, le_trans, mul-le-mul_right, div-mul-le_self, div-lt_iff_lt-mul}
-use native.Mathlib.Numerals.{add-one, sub-one}
-use mathlib.Core.List.{List, [], ◌∷◌, ◌++◌}
+use native.Mathlib.Numerals.{add-one}
+use mathlib.Core.List.{List, [], ◌∷◌, ◌++◌, append_assoc, append-nil}
 use mathlib.Core.Path.{◌≡◌, refl, sym, ap, ◌∙◌}
-use lib.ListN.{length, set, drop, get_or, length-append}
-use lib.Seq.{sets, length-sets}
+use lib.ListN.{length, set, take, drop, get_or, length-append}
+use lib.Seq.{sets, length-sets, take-suc-set, take_all}
 use Rattle.basis.specs.Store.{stored, after, Stored}
 use Rattle.basis.proofs.Bytes.{here, past}
 use Rattle.basis.proofs.Stores.{sets_append, sets_front, whole}
 use Rattle.lent.specs.Written.{written_of, left_of}
-use Rattle.lent.specs.declared.Written.TheVariants.{Done}
 use Rattle.lent.proofs.Writes.{done, written}
 use Rattle.numbers.specs.Spell.{spell, spelled}
 
@@ -27,16 +27,19 @@ unfolding spelled
 length_spelled w [] = sym (zero-mul w)
 length_spelled w (n ∷ ns) = length-append (spell w n) (spelled w ns) ∙ omega (arith, length_spell w n, length_spelled w ns, suc-mul (length ns) w)
 
--- one turn of a number's stores, and their end
-pub sets_spell : (l : List ℕ) (i w n : ℕ) → 0 < w → sets l i (spell w n) ≡ sets (set l i (n % 256)) (i + 1) (spell (w - 1) (n / 256))
-unfolding spell
-sets_spell l i zero n h = absurd (omega arith)
-sets_spell l i (suc w) n h = rw (sub-one, add-one)
+-- the bytes of a place that holds a number's lowest i bytes and then awaits the rest: one byte more, and all
+module _ (items : List ℕ) (i w rest : ℕ) (e : length items ≡ w) where
+  pub spell_on : i < w → take (i + 1) (set items i (rest % 256)) ++ spell (w - (i + 1)) (rest / 256) ≡ take i items ++ spell (w - i) rest
+  unfolding spell
+  spell_on h =
+      let k : w - i ≡ suc (w - (i + 1)) = omega arith in
+      rw (add-one, take-suc-set items i (rest % 256) (omega arith), append_assoc, k, add-one)
 
-pub sets_spelt : (l : List ℕ) (i w n : ℕ) → w ≤ 0 → sets l i (spell w n) ≡ l
-unfolding spell
-sets_spelt l i zero n h = refl
-sets_spelt l i (suc w) n h = absurd (omega arith)
+  pub spell_end : w ≤ i → take i items ++ spell (w - i) rest ≡ items
+  unfolding spell
+  spell_end h =
+      let k : w - i ≡ 0 = omega arith in
+      rw (k, append-nil, take_all i items (omega arith))
 
 -- a row from an index on: its first number, and what is after it
 pub spelled_here : (w : ℕ) (row : List ℕ) (i : ℕ) → i < length row → spelled w (drop i row) ≡ spell w (get_or row i 0) ++ spelled w (drop (i + 1) row)
@@ -58,7 +61,7 @@ spelled_none [] = refl
 spelled_none (n ∷ ns) = spelled_none ns
 
 module _ (row l : List ℕ) where
-  pub none_done : (w : ℕ) → w ≡ 0 → Done 0 ≡ written_of (spelled w row) l
+  pub none_done : (w : ℕ) → w ≡ 0 → Ok 0 ≡ written_of (spelled w row) l
   none_done w e = rw (e, spelled_none row) (sym (done [] l (omega arith)))
 
   pub none_left : (w : ℕ) → w ≡ 0 → l ≡ left_of (spelled w row) l
@@ -100,8 +103,8 @@ module _ {row : List ℕ} {w : ℕ} {l₀ l : List ℕ} {at i : ℕ} (inv : Rowe
     unfolding spelled
     over_memory = inv.memory ∙ rw (past row i h)
 
-    pub row_done : Done at ≡ written_of (spelled w row) l₀
-    row_done = ap Done over_at ∙ sym (done (spelled w row) l₀ inv.room)
+    pub row_done : Ok at ≡ written_of (spelled w row) l₀
+    row_done = ap Ok over_at ∙ sym (done (spelled w row) l₀ inv.room)
 
     pub row_left : l ≡ left_of (spelled w row) l₀
     row_left = sym over_memory ∙ sets_front l₀ (spelled w row) inv.room ∙ sym (written (spelled w row) l₀ inv.room)

@@ -14,22 +14,15 @@ pub fn put(n: u64, width: usize, out: &mut [u8], at: usize) -> usize
     ensures value { result ≡ after out.old at (spell width n) }
     ensures out_after { out.new ≡ stored out.old at (spell width n) }
 {
-    if out.len() < at {
+    let Some(end) = lent::room(out, at, width) else {
         return at;
-    }
-    if out.len() - at < width {
-        return at;
-    }
+    };
     let mut rest = n;
-    let mut w = at;
-    let mut left = width;
-    while 0 < left {
-        out[w] = (rest % 256) as u8;
-        rest = rest / 256;
-        w += 1;
-        left -= 1;
+    for byte in out[at..end].iter_mut() {
+        *byte = (rest % 256) as u8;
+        rest /= 256;
     }
-    w
+    end
 }
 
 // Puts a row of numbers, so many bytes each, at the front of what is lent, and answers their length; too little room is 9,
@@ -39,16 +32,14 @@ pub fn write_row(row: &[u64], width: usize, out: &mut [u8]) -> Written
     ensures out_after { out.new ≡ left_of (spelled width row.now) out.old }
 {
     if width == 0 {
-        return Written::Done(0);
+        return Ok(0);
     }
     if out.len() / width < row.len() {
-        return Written::Refused(9);
+        return Err(9);
     }
     let mut at = 0;
-    let mut i = 0;
-    while i < row.len() {
-        at = put(row[i], width, &mut *out, at);
-        i += 1;
+    for n in row {
+        at = put(*n, width, out, at);
     }
-    Written::Done(at)
+    Ok(at)
 }

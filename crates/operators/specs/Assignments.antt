@@ -1,10 +1,9 @@
 -- The operator-assignment pairs: `is_op_assignment`, `get_base_op_from_assignment`, `has_op_assignment` and `convert_to_op_assignment` of `types/token.rs`.
-use Rattle.std.specs.Prelude.{ℕ, Bool, List, [], ◌∷◌, eqb}
+use Rattle.std.specs.Prelude.{ℕ, Bool, List, [], ◌∷◌, eqb, None, Some}
 use Rattle.basis.specs.Pick.{pick}
 use Rattle.token.specs.Tokens as Token
 use Rattle.token.specs.Tokens.{among_tokens}
-use Rattle.token.specs.declared.Lookup.{Lookup}
-use Rattle.token.specs.declared.Lookup.TheVariants.{Some, None}
+use Rattle.token.specs.Lookups.{Lookup}
 
 -- an assignment and its operator
 pub record Pair : Type 0 where

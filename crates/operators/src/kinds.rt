@@ -9,32 +9,29 @@ use token::tokens::*;
 pub fn is_literal(token: u8) -> bool
     ensures { result ≡ is_literal token }
 {
-    if TOKEN_COUNT <= token {
-        return false;
-    }
-    match token {
-        INTEGER_CONSTANT..=INTERPOLATED_STRING | LEX_ERROR..=CUSTOM | EOF => false,
-        _ => true,
-    }
+    matches!(token, LEFT_BRACE..=AS | UNPROCESSED_RAW_CHAR)
 }
 
 // Whether a token is a standard symbol.
 pub fn is_standard_symbol(token: u8) -> bool
     ensures { result ≡ is_standard_symbol token }
 {
-    match token {
-        LEFT_BRACE..=RIGHT_BRACKET | PLUS..=DOUBLE_COLON | COMMA..=EQUALS => true,
-        LESS_THAN..=AND | PLUS_ASSIGN..=POWER_OF_ASSIGN => true,
-        _ => false,
-    }
+    matches!(
+        token,
+        LEFT_BRACE..=RIGHT_BRACKET
+            | PLUS..=DOUBLE_COLON
+            | COMMA..=EQUALS
+            | LESS_THAN..=AND
+            | PLUS_ASSIGN..=POWER_OF_ASSIGN
+    )
 }
 
 // Whether a token is a standard keyword; `switch` is none in the source.
 pub fn is_standard_keyword(token: u8) -> bool
     ensures { result ≡ is_standard_keyword token }
 {
-    match token {
-        TRUE..=ELSE | DO..=IN | FN..=CATCH | PRIVATE..=AS => true,
-        _ => false,
-    }
+    matches!(
+        token,
+        TRUE..=ELSE | DO..=IN | FN..=CATCH | PRIVATE..=AS
+    )
 }

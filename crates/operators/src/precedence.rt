@@ -25,6 +25,7 @@ pub fn precedence(token: u8) -> u8
 }
 
 // Whether an operator binds to the right.
+#[tactic(auto, unfolding(crate::specs::Precedence::is_bind_right))]
 pub fn is_bind_right(token: u8) -> bool
     ensures { result ≡ is_bind_right token }
 {

@@ -1,4 +1,5 @@
+pub mod Answer
 pub mod Coordinates
-pub mod Told
 pub mod Moves
 pub mod Sum
+pub mod Told

@@ -1,9 +1,8 @@
 -- Document 01's number and values for each case of a place that may be refused.
-use Rattle.std.specs.Prelude.{ℕ}
+use Rattle.std.specs.Prelude.{ℕ, Err, Ok}
 use Rattle.position.specs.Place.{none}
 use Rattle.position.specs.declared.Position.{Position}
-use Rattle.places.specs.declared.coordinates.Placed.{Placed}
-use Rattle.places.specs.declared.coordinates.Placed.TheVariants.{At, Refused}
+use Rattle.places.specs.Answer.{Placed}
 
 -- what is told: the refusal's number, 0 for none, and the place
 pub record Told : Type 0 where
@@ -12,5 +11,5 @@ pub record Told : Type 0 where
 
 -- the values of each case; a refusal has no place
 unfoldable pub told : Placed → Told
-told (At p) = record { number = 0; place = p }
-told (Refused n) = record { number = n; place = none }
+told (Ok p) = record { number = 0; place = p }
+told (Err n) = record { number = n; place = none }

@@ -6,51 +6,40 @@ use fault::Fault;
 use position::Position;
 
 // A place, or the number of the refusal.
-#[derive(Clone, Copy)]
-pub enum Placed {
-    At(Position),
-    Refused(u8),
-}
-
-// The Rust's Option<usize>.
-#[derive(Clone, Copy)]
-pub enum Coordinate {
-    Some(usize),
-    None,
-}
+pub type Placed = Result<Position, u8>;
 
 // Where the Rust panics, on line 0, this is refused.
 pub fn new(line: u16, position: u16) -> Placed
     ensures { result ≡ new_of line position }
 {
     if line == 0 {
-        return Placed::Refused(Fault::BAD_ARGUMENT);
+        return Err(Fault::BAD_ARGUMENT);
     }
-    Placed::At(Position::given(line, position))
+    Ok(Position::given(line, position))
 }
 
 // A number of a place, which NONE has not.
-fn numbered(p: Position, n: u16) -> Coordinate
+fn numbered(p: Position, n: u16) -> Option<usize>
     ensures { result ≡ numbered p n }
 {
     if p.is_none() {
-        return Coordinate::None;
+        return None;
     }
-    Coordinate::Some(n as usize)
+    Some(n as usize)
 }
 
-pub fn line(p: Position) -> Coordinate
+pub fn line(p: Position) -> Option<usize>
     ensures { result ≡ line_option p }
 {
     numbered(p, p.line_number())
 }
 
-pub fn position(p: Position) -> Coordinate
+pub fn position(p: Position) -> Option<usize>
     ensures { result ≡ position_option p }
 {
     let column = p.column_number();
     if column == 0 {
-        return Coordinate::None;
+        return None;
     }
     numbered(p, column)
 }

@@ -11,9 +11,9 @@ fn moved(p: Position, to: Position) -> Placed
     ensures { result ≡ moved p to }
 {
     if p.is_on_line() {
-        return Placed::At(to);
+        return Ok(to);
     }
-    Placed::Refused(Fault::BAD_ARGUMENT)
+    Err(Fault::BAD_ARGUMENT)
 }
 
 pub fn advance(p: Position) -> Placed
@@ -26,7 +26,7 @@ pub fn rewind(p: Position) -> Placed
     ensures { result ≡ rewind_of p }
 {
     if p.column_number() == 0 {
-        return Placed::Refused(Fault::BAD_ARGUMENT);
+        return Err(Fault::BAD_ARGUMENT);
     }
     moved(p, p.rewound())
 }

@@ -8,43 +8,41 @@ use fault::Fault;
 use position::Position;
 
 // The sum of two columns, on the line that the sum has.
+#[tactic(auto, unfolding(crate::specs::Sum::sum_on, crate::specs::Sum::sum_passes))]
 fn sum_on(line: u16, c: u16, d: u16) -> Placed
     ensures { result ≡ sum_on line c d }
 {
     if d == 0 {
-        return Placed::At(Position::given(line, c));
+        return Ok(Position::given(line, c));
     }
-    if 65535 - d < c {
-        return Placed::Refused(Fault::BAD_SUM);
+    match c.checked_add(d) {
+        Some(column) => Ok(Position::given(line, column - 1)),
+        None => Err(Fault::BAD_SUM),
     }
-    Placed::At(Position::given(line, c + d - 1))
 }
 
 // The sum of two places on lines.
+#[tactic(auto, using(position::proofs::Moves::on_line_lem), unfolding(crate::specs::Sum::sum_lines, crate::specs::Sum::sum_passes))]
 fn sum_lines(p: Position, rhs: Position) -> Placed
     requires { on_line p ≡ true }
     ensures { result ≡ sum_lines p rhs }
 {
-    let line = p.line_number();
-    let more = rhs.line_number();
-    if 65535 - more < line {
-        return Placed::Refused(Fault::BAD_SUM);
+    match p.line_number().checked_add(rhs.line_number()) {
+        Some(line) => sum_on(line - 1, p.column_number(), rhs.column_number()),
+        None => Err(Fault::BAD_SUM),
     }
-    sum_on(line + more - 1, p.column_number(), rhs.column_number())
 }
 
 // It is refused where the Rust would panic, wrap, or answer a place that is none.
+#[tactic(auto, unfolding(crate::specs::Sum::sum_of))]
 pub fn sum(p: Position, rhs: Position) -> Placed
     ensures { result ≡ sum_of p rhs }
 {
     if rhs.is_none() {
-        return Placed::At(p);
+        Ok(p)
+    } else if p.is_on_line() && rhs.is_on_line() {
+        sum_lines(p, rhs)
+    } else {
+        Err(Fault::BAD_SUM)
     }
-    if p.is_on_line() {
-        if rhs.is_on_line() {
-            return sum_lines(p, rhs);
-        }
-        return Placed::Refused(Fault::BAD_SUM);
-    }
-    Placed::Refused(Fault::BAD_SUM)
 }

@@ -1,5 +1,5 @@
 // Places in a script, a line and a column of at most 65,535 each: the type Position of types/position.rs, and its moves for the scanners.
-#![tactic(auto)]
+#![tactic(auto, using(crate::proofs::Moves::advanced_by_numbers), unfolding(crate::specs::Place::given, crate::specs::Place::line_number, crate::specs::Place::column_number, crate::specs::Place::is_none, crate::specs::Place::on_line, crate::specs::Place::begins_line, crate::specs::Place::or_else, crate::specs::Place::up, crate::specs::Place::advanced, crate::specs::Place::lined, crate::specs::Place::rewound))]
 
 ghost use Rattle.std.specs.Prelude.{◌≡◌};
 ghost use Rattle.position.specs.Place.{
@@ -16,7 +16,9 @@ ghost use Rattle.position.specs.Place.{
   rewound,
 };
 
-#[derive(Clone, Copy)]
+mod words;
+
+#[derive(Eq, PartialEq, Ord, PartialOrd, Hash, Clone, Copy)]
 pub struct Position {
     // 0 is no line.
     line: u16,
@@ -55,19 +57,13 @@ impl Position {
     pub fn is_beginning_of_line(self) -> bool
         ensures { result ≡ begins_line self }
     {
-        if self.pos != 0 {
-            return false;
-        }
-        !self.is_none()
+        !self.is_none() && self.pos == 0
     }
 
     pub fn is_none(self) -> bool
         ensures { result ≡ is_none self }
     {
-        if self.line == 0 {
-            return self.pos == 0;
-        }
-        false
+        self == Self::NONE
     }
 
     // Whether the place is on a line at all: a scan from one that is not is refused.
@@ -80,22 +76,16 @@ impl Position {
     pub fn or_else(self, pos: Position) -> Self
         ensures { result ≡ or_else self pos }
     {
-        if self.is_none() {
-            return pos;
-        }
-        self
+        if self.is_none() { pos } else { self }
     }
 
     // The moves with no refusal, for a scan whose start was found good: a number at its end stays there.
     pub fn advanced(self) -> Self
         ensures { result ≡ advanced self }
     {
-        if self.pos == 65535 {
-            return self;
-        }
         Self {
-            line: self.line,
-            pos: self.pos + 1,
+            pos: self.pos.saturating_add(1),
+            ..self
         }
     }
 
@@ -103,30 +93,17 @@ impl Position {
     pub fn advanced_by(self, n: usize) -> Self
         ensures { result ≡ advanced_by n self }
     {
-        let pos = self.pos as usize;
-        if 65535 - pos <= n {
-            return Self {
-                line: self.line,
-                pos: 65535,
-            };
-        }
         Self {
-            line: self.line,
-            pos: (pos + n) as u16,
+            pos: self.pos.saturating_add(n.min(65535) as u16),
+            ..self
         }
     }
 
     pub fn lined(self) -> Self
         ensures { result ≡ lined self }
     {
-        if self.line == 65535 {
-            return Self {
-                line: 65535,
-                pos: 0,
-            };
-        }
         Self {
-            line: self.line + 1,
+            line: self.line.saturating_add(1),
             pos: 0,
         }
     }
@@ -134,12 +111,9 @@ impl Position {
     pub fn rewound(self) -> Self
         ensures { result ≡ rewound self }
     {
-        if self.pos == 0 {
-            return self;
-        }
         Self {
-            line: self.line,
-            pos: self.pos - 1,
+            pos: self.pos.saturating_sub(1),
+            ..self
         }
     }
 }

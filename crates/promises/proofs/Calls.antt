@@ -7,8 +7,8 @@ use contract.Lifetimes.{Lfts}
 use denote.MutBor.{MutBor}
 use denote.Ref.{Bor}
 use Rattle.position.specs.declared.Position.{Position}
-use Rattle.lent.specs.declared.Written.{Written}
-use Rattle.literal.specs.declared.Scanned.{Scanned}
+use Rattle.lent.specs.Answer.{Written}
+use Rattle.literal.specs.Scans.{Scanned}
 use Rattle.raw.proofs.parse_raw_string_literal.Reads as scan
 use Rattle.raw_writer.proofs.raw_write.Reads as write
 use Rattle.raw_writer.specs.Writer.{raw_literal_of}

@@ -1,4 +1,5 @@
 -- What the raw writer makes of bodies of millions of bytes. Assumes nothing.
+use Rattle.std.specs.Prelude.{Ok}
 use Prim.Native.Nat.{ℕ, zero, suc, ◌+◌, ◌*◌, ◌<◌}
 use native.Mathlib.Omega.{arith}
 use mathlib.Core.Bool.{true}
@@ -10,7 +11,6 @@ use Rattle.utf8.specs.Table.{well}
 use Rattle.utf8.specs.Encode.{encode, encode_all, all_scalar, is_scalar}
 use Rattle.utf8.proofs.Unicode.{scalars_well}
 use Rattle.lent.specs.Written.{written_of, left_of}
-use Rattle.lent.specs.declared.Written.TheVariants.{Done}
 use Rattle.raw_writer.specs.Writer.{hashes_ahead, most_after_quote, hashes_for, raw_literal_of, raw_write_of, raw_left_of}
 use Rattle.classes.specs.Marks.{quote, hash}
 use Rattle.door.specs.Door.{text_of}
@@ -82,4 +82,4 @@ module _ (n : ℕ) where
 pub long_written : LongWritten
 unfolding body raw_write_of raw_left_of written_of left_of
 long_written n memory h room =
-    rw (accepts n h, le-ltb (length memory) (length (raw_literal_of (body n))) (omega (arith, size n))) (ap Done (size n), refl)
+    rw (accepts n h, le-ltb (length memory) (length (raw_literal_of (body n))) (omega (arith, size n))) (ap Ok (size n), refl)

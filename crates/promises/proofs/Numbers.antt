@@ -1,4 +1,5 @@
 -- The theorems NumbersFit and BytesTell of specs/Numbers.antt. Assumes nothing.
+use Rattle.std.specs.Prelude.{Err, Ok}
 use Prim.Native.Nat.{ℕ, ◌≤◌}
 use native.Mathlib.Omega.{arith}
 use mathlib.Core.List.{List, [], ◌∷◌, ◌++◌, append_assoc}
@@ -12,8 +13,7 @@ use Rattle.entry.specs.Entries.{numbers_of, laid_out, U32s}
 use Rattle.reading.specs.Reading.{entries, literal_bytes}
 use Rattle.reading.specs.Told.{ending_number, ending_place, ending_part}
 use Rattle.entry.specs.declared.Entry.{Entry}
-use Rattle.reading.specs.declared.Ending.{Ending}
-use Rattle.reading.specs.declared.Ending.TheVariants.{End, Stop}
+use Rattle.reading.specs.Endings.{Ending}
 use Rattle.reading.proofs.Small.{EndingSmall}
 use Rattle.script.specs.Rules.{document01}
 use Rattle.run.specs.Run.{run_of}
@@ -26,8 +26,8 @@ use Rattle.promises.specs.Numbers.{entry_numbers, answer_numbers, NumbersFit, By
 -- ---- the seven
 seven_fit : (e : Ending) → EndingSmall 16777216 e → (listed used : ℕ) → listed ≤ 16777216 → used ≤ 67108864 → U32s (tells_of e listed used)
 unfolding tells_of ending_number ending_place ending_part
-seven_fit (End p) h listed used l m = (omega arith, (omega (arith, h.line), (omega (arith, h.column), (omega arith, (omega arith, (omega arith, (omega arith, tt)))))))
-seven_fit (Stop f) h listed used l m =
+seven_fit (Ok p) h listed used l m = (omega arith, (omega (arith, h.line), (omega (arith, h.column), (omega arith, (omega arith, (omega arith, (omega arith, tt)))))))
+seven_fit (Err f) h listed used l m =
     (omega (arith, h.number), (omega (arith, h.place.line), (omega (arith, h.place.column), (omega arith, (omega arith, (omega (arith, h.at), (omega (arith, h.len), tt)))))))
 
 pub numbers_fit : NumbersFit

@@ -1,4 +1,6 @@
 -- A raw literal in a text: its opening, its body, which nothing in it closes, and its closing hashes. Assumes nothing.
+use Rattle.raw.specs.Answer.{opened_as}
+use Rattle.chars.specs.Takes.{char_taken}
 use Prim.Native.Nat.{ℕ, zero, suc, ◌+◌, ◌-◌, ◌≤◌, ◌<◌}
 use native.Mathlib.Omega.{arith}
 use mathlib.Core.Bool.{Bool, true, false}
@@ -20,14 +22,12 @@ use Rattle.utf8.proofs.Encodes.{scalar_low}
 use Rattle.utf8.proofs.Finds.{look_encode}
 use Rattle.chars.specs.Cursors.{cursor, eat_next_of}
 use Rattle.chars.specs.Scan.{run_at}
-use Rattle.chars.specs.declared.cursor.Taken.TheVariants as taken
 use Rattle.chars.proofs.Cursors.{ate}
 use Rattle.chars.proofs.Scans.{move_over}
 use Rattle.literal.specs.Trace.{Trace, bytes, final, good}
 use Rattle.literal.specs.declared.End.{End}
 use Rattle.literal.specs.Answers.{nothing}
 use Rattle.classes.specs.Marks.{lf}
-use Rattle.raw.specs.declared.open.Opened.TheVariants.{At}
 use Rattle.raw.proofs.open.Openings.{counting, hash_on, quote_on}
 use Rattle.raw.specs.Raw.{as_source, raw_end, BodyState, body_state, body_rule}
 use Rattle.raw.specs.Step.{Adds}
@@ -51,19 +51,19 @@ module _ (t : List ℕ) (at : ℕ) where
 
   -- the character whose encoding stands there is taken
   module _ (p : Position) where
-    eats : (c : ℕ) (l : List ℕ) → is_scalar c ≡ true → drop at t ≡ encode c ++ l → eat_next_of t (cursor at p) ≡ taken.Char c (cursor (at + length (encode c)) (advanced p))
+    eats : (c : ℕ) (l : List ℕ) → is_scalar c ≡ true → drop at t ≡ encode c ++ l → eat_next_of t (cursor at p) ≡ char_taken c (cursor (at + length (encode c)) (advanced p))
     unfolding look_at
     eats c l s e = ate t (cursor at p) (ap look e ∙ look_encode c l s)
 
-    eats_quote : (l : List ℕ) → drop at t ≡ quote ∷ l → eat_next_of t (cursor at p) ≡ taken.Char quote (cursor (at + 1) (advanced p))
+    eats_quote : (l : List ℕ) → drop at t ≡ quote ∷ l → eat_next_of t (cursor at p) ≡ char_taken quote (cursor (at + 1) (advanced p))
     eats_quote l e = rw quote_bytes at (eats quote l (scalar_low quote (omega arith)) (rw quote_bytes e))
 
-    eats_hash : (l : List ℕ) → drop at t ≡ hash ∷ l → eat_next_of t (cursor at p) ≡ taken.Char hash (cursor (at + 1) (advanced p))
+    eats_hash : (l : List ℕ) → drop at t ≡ hash ∷ l → eat_next_of t (cursor at p) ≡ char_taken hash (cursor (at + 1) (advanced p))
     eats_hash l e = rw hash_bytes at (eats hash l (scalar_low hash (omega arith)) (rw hash_bytes e))
 
 -- ---- the opening: m hashes more and a quote
 pub opens : (t : List ℕ) (start : Position) (m k at : ℕ) (p : Position) (l : List ℕ) → drop at t ≡ replicate m hash ++ quote ∷ l
-    → counting start t k (cursor at p) ≡ At (k + m) (cursor (at + suc m) (columns (suc m) p))
+    → counting start t k (cursor at p) ≡ opened_as (k + m) (cursor (at + suc m) (columns (suc m) p))
 unfolding columns
 opens t start zero k at p l e =
     let z : k + 0 ≡ k = omega arith in
@@ -127,7 +127,7 @@ module _ (t : List ℕ) (start : Position) (k : ℕ) where
 
   abbrev Taken : ℕ → BodyState → List ℕ → ℕ → Type 0
   Taken at s cs c =
-      eat_next_of t (cursor at s.place) ≡ taken.Char c (cursor (at + length (encode c)) (advanced s.place))
+      eat_next_of t (cursor at s.place) ≡ char_taken c (cursor (at + length (encode c)) (advanced s.place))
       → reach s.held (encode c ++ cs) ≤ k → most_after_quote (encode c ++ cs) < k → Goes at s c cs
 
   module _ (at : ℕ) (s : BodyState) (cs : List ℕ) where

@@ -1,4 +1,6 @@
 -- Demand 2: the theorem of specs/RoundTrip.antt. Assumes nothing.
+use Rattle.literal.specs.Scans.{accepted_as}
+use Rattle.std.specs.Prelude.{Ok}
 use Prim.Native.Nat.{ℕ, zero, suc, ◌+◌, ◌≤◌, ◌<◌}
 use native.Mathlib.Omega.{arith}
 use native.Mathlib.Nat.{zero-add, add-zero}
@@ -19,11 +21,8 @@ use Rattle.literal.specs.Trace.{Trace, bytes, passes}
 use Rattle.literal.specs.Cut.{answer, wrote}
 use Rattle.literal.specs.Told.{told}
 use Rattle.literal.specs.declared.End.{End}
-use Rattle.lent.specs.declared.Written.TheVariants.{Done}
-use Rattle.literal.specs.declared.Scanned.TheVariants.{Accepted}
 use Rattle.literal.specs.Answers.{nothing}
-use Rattle.raw.specs.declared.open.Opened.{Opened}
-use Rattle.raw.specs.declared.open.Opened.TheVariants.{At}
+use Rattle.raw.specs.Answer.{Opened, opened_as}
 use Rattle.raw.proofs.open.Openings.{is_fresh}
 use Rattle.raw.specs.Raw.{as_source, raw_end, body_state, body_of, behind_opening, read_of}
 use Rattle.raw.proofs.write.Parts.{stands_there}
@@ -94,7 +93,7 @@ module _ (body before after : List ℕ) where
         reads_on as_source (enters_of text (cursor at start)) text (cursor at start) 0 lets_in
         ∙ ap (λ (x : Opened). behind_opening as_source text start x) (is_fresh text (cursor at start) refl
         ∙ opens text start (most_after_quote body) 1 at start (body ++ (quote ∷ replicate (hashes_for body) hash ++ after)) stands
-        ∙ ap (λ (n : ℕ). At n (cursor from (columns (hashes_for body) start))) k)
+        ∙ ap (λ (n : ℕ). opened_as n (cursor from (columns (hashes_for body) start))) k)
 
     module _ (good-body : well body ≡ true) where
       whole : Reads trace (length body) end
@@ -114,7 +113,7 @@ module _ (body before after : List ℕ) where
           rw (← opened, whole.size, inside) at s ∙ take_at body (quote ∷ replicate (hashes_for body) hash ++ after) (length body) refl
 
       module _ (limit : ℕ) (buffer : List ℕ) (within : passes limit (length body) ≡ false) (room : length body ≤ length buffer) where
-        scanned : parse_of as_source text at start limit (length buffer) ≡ Accepted end (length body)
+        scanned : parse_of as_source text at start limit (length buffer) ≡ accepted_as end (length body)
         unfolding answer
         scanned = parse_uncut as_source text at start limit (length buffer) (rw body_is room) (rw body_is within) ∙ rw (body_is, whole.ends)
 
@@ -128,8 +127,8 @@ module _ (body before after : List ℕ) where
 
 -- what the writer makes is the literal
 module _ (body lent : List ℕ) (formed : well body ≡ true) (short : length body ≤ 16777216) (room : length (raw_literal_of body) ≤ length lent) where
-  answered : raw_write_of body lent ≡ Done (length (raw_literal_of body))
-  answered = let n = length_literal body in sym (done body lent (sym (text_good body short formed)) refl refl (omega arith)) ∙ ap Done (sym n)
+  answered : raw_write_of body lent ≡ Ok (length (raw_literal_of body))
+  answered = let n = length_literal body in sym (done body lent (sym (text_good body short formed)) refl refl (omega arith)) ∙ ap Ok (sym n)
 
   makes : made (raw_write_of body lent) (raw_left_of body lent) ≡ raw_literal_of body
   makes =

@@ -19,7 +19,7 @@ use Rattle.entry.proofs.Layouts.{laid_length, laid_append}
 use Rattle.reading.specs.Told.{ending_number}
 use Rattle.reading.specs.Limits.{Wider, Begins, EndsOwn}
 use Rattle.reading.specs.declared.Bounds.{Bounds}
-use Rattle.reading.specs.declared.Ending.{Ending}
+use Rattle.reading.specs.Endings.{Ending}
 use Rattle.script.specs.Rules.{document01}
 use Rattle.run.specs.Run.{run_reading, bounds_of, run_of, literals_of, entries_of, Called, called, holds}
 use Rattle.run.specs.declared.Ran.{Ran}

@@ -1,4 +1,5 @@
 -- The theorem ShutsOutRuns of specs/Limits.antt, by two literals. Assumes nothing.
+use Rattle.std.specs.Prelude.{Err}
 use Prim.Native.Nat.{ℕ}
 use native.Mathlib.Omega.{arith}
 use mathlib.Core.List.{List, [], ◌∷◌, ◌++◌}
@@ -16,7 +17,6 @@ use Rattle.book.specs.Contents as Contents
 use Rattle.reading.specs.Reading.{token, Left, entries, literal_bytes}
 use Rattle.reading.specs.CutRun.{bounds, cut_run}
 use Rattle.reading.specs.declared.Bounds.{Bounds}
-use Rattle.reading.specs.declared.Ending.TheVariants.{Stop}
 use Rattle.script.specs.Script.{script_of}
 use Rattle.find.specs.Find.{opens_string}
 use Rattle.script.specs.Rules.{document01}
@@ -80,7 +80,7 @@ module _ (runs : Runs) (demand : Meets runs) where
   first_alone : runs (a ++ b) empty (room 1) ≡ cut_run (room 1) 0 0 (script_of document01 (a ++ b) empty)
   first_alone = leaves (a ++ b) (room 1) enters.1
 
-  is_stopped : (runs (a ++ b) empty (room 1)).ending ≡ Stop (no_token_room (place 1 5))
+  is_stopped : (runs (a ++ b) empty (room 1)).ending ≡ Err (no_token_room (place 1 5))
   unfolding word
   is_stopped = ap (λ (l : Left). l.ending) first_alone ∙ worked.no_entry_left.2
 

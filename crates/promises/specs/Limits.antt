@@ -1,12 +1,11 @@
 -- Demand 3, limits only cut: "Limits only cut. A run lists exactly the tokens of the unlimited rules before the first token whose reading, finished or not, passes a limit or room where document 01 tests it; larger limits repeat all earlier tokens, same bytes and positions, and an ending not caused by a limit or room recurs whole." The statements; their proofs are in proofs/Limits.antt and proofs/ShuttingRuns.antt, and specs/RunCalls.antt carries them to the functions.
-use Rattle.std.specs.Prelude.{ℕ, List, [], ◌++◌, ◌≡◌, length}
+use Rattle.std.specs.Prelude.{ℕ, List, [], ◌++◌, ◌≡◌, length, Err}
 use Rattle.position.specs.declared.Position.{Position}
 use Rattle.fault.specs.declared.Fault.{Fault}
 use Rattle.literal.specs.Trace.{Trace}
 use Rattle.reading.specs.Reading.{Token, Reading, finishes, reads, Left, entries, literal_bytes, whole}
 use Rattle.reading.specs.declared.Bounds.{Bounds}
 use Rattle.reading.specs.Limits.{Wider, Begins, EndsOwn, Caused, refused_by, FirstPast}
-use Rattle.reading.specs.declared.Ending.TheVariants.{Stop}
 use Rattle.script.specs.Rules.{document01}
 use Rattle.run.specs.Run.{run_reading, run_of}
 
@@ -35,7 +34,7 @@ FirstThatPasses b r = FirstPast b 0 0 r
 
 -- what is before it, exactly: those tokens, with their entries and their literal bytes; the run ends there with document 01's refusal at the place where it starts, 7 for the string limit, 9 for the literal room and 10 for the token room
 abbrev pub before : {b : Bounds} {r : Reading} → FirstThatPasses b r → Left
-before x = record { tokens = x.tokens; ending = Stop (refused_by x.bound x.place) }
+before x = record { tokens = x.tokens; ending = Err (refused_by x.bound x.place) }
 
 -- ---- the demand, of any run over what a script reads as by the unlimited rules
 pub record LimitsOnlyCut (r : Reading) (run : Run) : Type 0 where
@@ -44,7 +43,7 @@ pub record LimitsOnlyCut (r : Reading) (run : Run) : Type 0 where
   -- before the first token whose reading, finished or not, passes a limit or room where document 01 tests it;"
   pub stops : (b : Bounds) (x : FirstThatPasses b r) → run b ≡ before x
   -- 7, 9 and 10 come nowhere else
-  pub only_there : (b : Bounds) (f : Fault) → (run b).ending ≡ Stop f → Caused f → FirstThatPasses b r
+  pub only_there : (b : Bounds) (f : Fault) → (run b).ending ≡ Err f → Caused f → FirstThatPasses b r
   -- and where no token passes, all is as by the unlimited rules
   pub else_all : (b : Bounds) → (FirstThatPasses b r → ⊥) → run b ≡ unlimited r
   -- "larger limits repeat all earlier tokens, same bytes and positions,
@@ -71,7 +70,7 @@ NeverStops runs = (script book : List ℕ) (b : Bounds) → EndsOwn (runs script
 
 -- runs that a limit or a room stops, and that have forgotten the literal bytes of the tokens listed: by stops
 abbrev pub ForgetsBytes : Runs → Type 0
-ForgetsBytes runs = (script book : List ℕ) (b : Bounds) (f : Fault) → (runs script book b).ending ≡ Stop f → Caused f → literal_bytes (runs script book b).tokens ≡ []
+ForgetsBytes runs = (script book : List ℕ) (b : Bounds) (f : Fault) → (runs script book b).ending ≡ Err f → Caused f → literal_bytes (runs script book b).tokens ≡ []
 
 -- a script that is one literal
 pub record OneLiteral (script book : List ℕ) : Type 0 where

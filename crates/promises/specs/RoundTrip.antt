@@ -1,19 +1,17 @@
 -- Demand 2, the round trip: what the raw writer makes, the raw scanner reads back. The statements; their proofs are in proofs/RoundTrip.antt, and proofs/Calls.antt carries them to the functions.
-use Rattle.std.specs.Prelude.{ℕ, ◌+◌, ◌≤◌, true, false, List, [], ◌++◌, ◌≡◌, length, take}
+use Rattle.std.specs.Prelude.{ℕ, ◌+◌, ◌≤◌, true, false, List, [], ◌++◌, ◌≡◌, length, take, Err, Ok}
 use Rattle.basis.specs.Store.{over}
 use Rattle.position.specs.declared.Position.{Position}
 use Rattle.position.specs.Place.{none, on_line}
 use Rattle.utf8.specs.Table.{well}
 use Rattle.chars.specs.Cursors.{cursor}
 use Rattle.fault.specs.Faults.{part}
-use Rattle.lent.specs.declared.Written.{Written}
-use Rattle.lent.specs.declared.Written.TheVariants as written
+use Rattle.lent.specs.Answer.{Written}
 use Rattle.literal.specs.Trace.{passes}
 use Rattle.literal.specs.Cut.{wrote}
 use Rattle.literal.specs.Told.{Told, told}
 use Rattle.literal.specs.declared.End.{End}
-use Rattle.literal.specs.declared.Scanned.{Scanned}
-use Rattle.literal.specs.declared.Scanned.TheVariants as scanned
+use Rattle.literal.specs.Scans.{Scanned, accepted_as}
 use Rattle.literal.specs.Answers.{nothing}
 use Rattle.raw.specs.Raw.{as_source}
 use Rattle.raw.specs.Entries.{parse_trace, parse_of}
@@ -65,8 +63,8 @@ raw_scanner = record {
 
 -- the bytes that were written: so many at the front of the buffer as the answer says
 abbrev pub made : Written → List ℕ → List ℕ
-made (written.Done n) buffer = take n buffer
-made (written.Refused n) buffer = []
+made (Ok n) buffer = take n buffer
+made (Err n) buffer = []
 
 -- ---- the demand
 -- what is told of a literal that starts behind n bytes and is read back: no refusal; the offset behind exactly that literal, and the position there; the first place; nothing on record; the length of that body; no `${`
@@ -85,9 +83,9 @@ read_back body n start =
 
 -- a body, written with an answer w and scanned behind `before` with an answer r, came back in a buffer, which then holds `left`
 pub record ComesBack (body before : List ℕ) (start : Position) (buffer : List ℕ) (w : Written) (r : Scanned) (left : List ℕ) : Type 0 where
-  pub is_written : w ≡ written.Done (length (raw_literal_of body))
+  pub is_written : w ≡ Ok (length (raw_literal_of body))
   pub end : End
-  pub is_accepted : r ≡ scanned.Accepted end (length body)
+  pub is_accepted : r ≡ accepted_as end (length body)
   pub is_told : told r ≡ read_back body (length before) start
   pub is_left : left ≡ over body buffer
 

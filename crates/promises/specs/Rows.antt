@@ -1,5 +1,5 @@
 -- How an example of document 01 is put to the definitions, and what it says of their answer.
-use Rattle.std.specs.Prelude.{ℕ, List, eqb, length, take, replicate}
+use Rattle.std.specs.Prelude.{ℕ, List, eqb, length, take, replicate, Err, Ok}
 use Prim.Native.String.{String}
 use Rattle.basis.specs.Pick.{pick}
 use Rattle.basis.specs.Words.{word}
@@ -8,13 +8,10 @@ use Rattle.position.specs.Place.{place, none}
 use Rattle.utf8.specs.Table.{chars}
 use Rattle.literal.specs.Trace.{Trace}
 use Rattle.literal.specs.Cut.{wrote}
-use Rattle.literal.specs.declared.Scanned.{Scanned}
-use Rattle.literal.specs.declared.Scanned.TheVariants as scanned
+use Rattle.literal.specs.Scans.{Scanned, accepted_as}
 use Rattle.comment.specs.Block.{scan_block_comment_of}
-use Rattle.comment.specs.declared.scan.Commented.{Commented}
-use Rattle.comment.specs.declared.scan.Commented.TheVariants as commented
-use Rattle.lent.specs.declared.Written.{Written}
-use Rattle.lent.specs.declared.Written.TheVariants as lent
+use Rattle.comment.specs.Answer.{Commented}
+use Rattle.lent.specs.Answer.{Written}
 use Rattle.classes.specs.Marks.{quote, backtick}
 use Rattle.raw.specs.Raw.{as_source}
 use Rattle.raw.specs.Entries.{parse_trace, parse_of, resume_trace, resume_of}
@@ -67,22 +64,22 @@ body_in n r x = take n (wrote r x (replicate 100 0))
 
 -- the answer of a literal's scan; it is closed if nothing is on record
 abbrev pub of_literal : List ℕ → Trace → Scanned → Answer
-of_literal t x (scanned.Accepted e n) =
-    let bs = body_in n (scanned.Accepted e n) x in
+of_literal t x (Ok (e, n)) =
+    let bs = body_in n (accepted_as e n) x in
     let m = used t e.cursor.at in
     let p = e.cursor.place in
     pick (eqb e.on_record.times 0) (closes bs m p) (opens bs m p)
-of_literal t x (scanned.Refused f) = refused f.fault.number f.fault.place
+of_literal t x (Err f) = refused f.fault.number f.fault.place
 
 -- the answer of a comment's scan
 abbrev pub of_comment : List ℕ → Commented → Answer
-of_comment t (commented.Done c) = leaves c.level (used t c.cursor.at) c.cursor.place
-of_comment t (commented.Refused f) = refused f.number f.place
+of_comment t (Ok c) = leaves c.level (used t c.cursor.at) c.cursor.place
+of_comment t (Err f) = refused f.number f.place
 
 -- the answer of the writer: the literal at the front of what was lent
 abbrev pub of_writer : Written → List ℕ → Answer
-of_writer (lent.Done n) memory = makes (take n memory)
-of_writer (lent.Refused k) memory = refused k none
+of_writer (Ok n) memory = makes (take n memory)
+of_writer (Err k) memory = refused k none
 
 -- a raw literal entered after its first `#`, at 1:1
 abbrev pub after_hash : String → Answer

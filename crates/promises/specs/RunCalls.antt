@@ -1,10 +1,9 @@
 -- Demand 3 for callers of `run` and `stew_run`: what the memory lent to a call holds then; and of two calls on one script under one book, the second with a limit that is nowhere stricter and with no less memory, what the second repeats of the first. The proofs, from the two contracts, are in proofs/RunCalls.antt.
-use Rattle.std.specs.Prelude.{ℕ, ◌*◌, ◌≤◌, List, ◌≡◌, length, take, drop}
+use Rattle.std.specs.Prelude.{ℕ, ◌*◌, ◌≤◌, List, ◌≡◌, length, take, drop, Err}
 use Rattle.fault.specs.declared.Fault.{Fault}
 use Rattle.fault.specs.Faults.{Own}
 use Rattle.literal.specs.Limits.{Looser}
 use Rattle.numbers.specs.Spell.{value}
-use Rattle.reading.specs.declared.Ending.TheVariants.{Stop}
 use Rattle.run.specs.Run.{Called}
 use Rattle.stew.specs.RunAnswer.{CCalled}
 
@@ -24,7 +23,7 @@ pub record RepeatsCall (first second : Called) : Type 0 where
   pub no_less : first.answer.used ≤ second.answer.used
   pub literals : take first.answer.used second.literals ≡ take first.answer.used first.literals
   -- "and an ending not caused by a limit or room recurs whole.": the same answer, and so the same entries and the same bytes
-  pub recurs : ((f : Fault) → first.answer.ending ≡ Stop f → Own f) → second.answer ≡ first.answer
+  pub recurs : ((f : Fault) → first.answer.ending ≡ Err f → Own f) → second.answer ≡ first.answer
 
 -- ---- `stew_run`
 -- `CCalled` and `c_holds` stand in crate stew: the number returned, and what the three slices hold then; and what that is where the run has left l

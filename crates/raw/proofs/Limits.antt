@@ -1,4 +1,6 @@
 -- Demand 3 for raw literals: a limit and a room only cut the reading. Assumes nothing.
+use Rattle.literal.specs.Scans.{accepted_as}
+use Rattle.std.specs.Prelude.{Err}
 use Prim.Native.Nat.{ℕ, ◌≤◌}
 use native.Mathlib.Omega.{arith}
 use mathlib.Core.Bool.{false}
@@ -16,7 +18,6 @@ use Rattle.literal.specs.Limits.{Looser, FairTrace, string_limit, literal_room, 
 use Rattle.literal.specs.Told.{refusal_number}
 use Rattle.literal.specs.declared.End.{End}
 use Rattle.literal.specs.declared.Refusal.{Refusal}
-use Rattle.literal.specs.declared.Scanned.TheVariants.{Accepted, Refused}
 use Rattle.literal.proofs.Limits.{accepted_whole, uncut_within, recurs_whole, cut_at_the_first}
 use Rattle.literal.specs.Answers.{as_given, full}
 use Rattle.raw.specs.Raw.{read_of, Newlines}
@@ -37,7 +38,7 @@ module _ (mode : Newlines) (t : List ℕ) where
     parse_fair_trace = trace_fair_trace (enters_of t (cursor at p)) (cursor at p) 0 (enters_small t (cursor at p))
 
     -- an accepted scan's length is its body's and within the room, and it ends as the unlimited rules say
-    pub parse_accepted : (limit room : ℕ) (e : End) (n : ℕ) → parse_of mode t at p limit room ≡ Accepted e n
+    pub parse_accepted : (limit room : ℕ) (e : End) (n : ℕ) → parse_of mode t at p limit room ≡ accepted_as e n
         → (n ≡ length (bytes (parse_trace mode t at p))) × (n ≤ room) × (final (parse_trace mode t at p) ≡ good e)
     unfolding parse_of
     parse_accepted limit room e n h = accepted_whole (full (cursor at p)) limit room (parse_trace mode t at p) e n h
@@ -55,7 +56,7 @@ module _ (mode : Newlines) (t : List ℕ) where
     parse_recurs l m r s loose more x y = recurs_whole (full (cursor at p)) l m r s p (parse_trace mode t at p) refl parse_fair_trace loose more x y
 
     -- 7 comes at the first test that finds more than the limit, 9 at the first step that passes the room, and only there
-    pub parse_cut_first : (limit room : ℕ) (f : Refusal) → parse_of mode t at p limit room ≡ Refused f
+    pub parse_cut_first : (limit room : ℕ) (f : Refusal) → parse_of mode t at p limit room ≡ Err f
         → (f.fault.number ≡ 7 → Cuts (full (cursor at p)) limit room 0 (parse_trace mode t at p) string_limit f)
         × (f.fault.number ≡ 9 → Cuts (full (cursor at p)) limit room 0 (parse_trace mode t at p) literal_room f)
     unfolding parse_of
@@ -67,7 +68,7 @@ module _ (mode : Newlines) (t : List ℕ) where
       unfolding resume_trace
       resume_fair_trace = trace_fair_trace (resumes_of t (cursor at p) k) (cursor at p) k (resumes_small t (cursor at p) k)
 
-      pub resume_accepted : (limit room : ℕ) (e : End) (n : ℕ) → resume_of mode t at p k limit room ≡ Accepted e n
+      pub resume_accepted : (limit room : ℕ) (e : End) (n : ℕ) → resume_of mode t at p k limit room ≡ accepted_as e n
           → (n ≡ length (bytes (resume_trace mode t at p k))) × (n ≤ room) × (final (resume_trace mode t at p k) ≡ good e)
       unfolding resume_of
       resume_accepted limit room e n h = accepted_whole (full (cursor at p)) limit room (resume_trace mode t at p k) e n h
@@ -82,7 +83,7 @@ module _ (mode : Newlines) (t : List ℕ) where
       unfolding resume_of
       resume_recurs l m r s loose more x y = recurs_whole (full (cursor at p)) l m r s p (resume_trace mode t at p k) refl resume_fair_trace loose more x y
 
-      pub resume_cut_first : (limit room : ℕ) (f : Refusal) → resume_of mode t at p k limit room ≡ Refused f
+      pub resume_cut_first : (limit room : ℕ) (f : Refusal) → resume_of mode t at p k limit room ≡ Err f
           → (f.fault.number ≡ 7 → Cuts (full (cursor at p)) limit room 0 (resume_trace mode t at p k) string_limit f)
           × (f.fault.number ≡ 9 → Cuts (full (cursor at p)) limit room 0 (resume_trace mode t at p k) literal_room f)
       unfolding resume_of

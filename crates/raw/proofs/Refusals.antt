@@ -1,4 +1,5 @@
 -- What the arguments of a scan refuse, for each way out; what is known of arguments that nothing refuses; and the reading then. Assumes nothing.
+use Rattle.std.specs.Prelude.{Err}
 use Prim.Native.Nat.{ℕ, ◌≤◌, ◌<◌}
 use native.Mathlib.Omega.{arith}
 use mathlib.Core.Bool.{Bool, true, false}
@@ -18,8 +19,7 @@ use Rattle.chars.specs.declared.cursor.Cursor.{Cursor}
 use Rattle.door.proofs.Doors.{admitted, door_small}
 use Rattle.literal.specs.Cut.{cut, wrote}
 use Rattle.literal.specs.declared.Refusal.{Refusal}
-use Rattle.literal.specs.declared.Scanned.{Scanned}
-use Rattle.literal.specs.declared.Scanned.TheVariants.{Refused}
+use Rattle.literal.specs.Scans.{Scanned}
 use Rattle.literal.proofs.Turns.{cut_fails}
 use Rattle.literal.specs.Answers.{as_given, full}
 use Rattle.raw.specs.Raw.{read_of, Newlines}
@@ -89,7 +89,7 @@ module _ (t : List ℕ) (start : Cursor) where
 
 -- a scan, where something was refused and where nothing was
 module _ (mode : Newlines) (n : ℕ) (t : List ℕ) (start : Cursor) (k : ℕ) where
-  pub is_refused : (full : Refusal) (limit room : ℕ) → (n ≡ 0 → ⊥) → Refused (as_given n start) ≡ cut full limit room 0 (raw_trace mode n t start k)
+  pub is_refused : (full : Refusal) (limit room : ℕ) → (n ≡ 0 → ⊥) → Err (as_given n start) ≡ cut full limit room 0 (raw_trace mode n t start k)
   unfolding raw_trace
   is_refused full limit room h = rw (ne_eqb n 0 h) (sym (cut_fails full limit room 0 (as_given n start)))
 

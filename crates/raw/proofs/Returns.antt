@@ -1,4 +1,5 @@
 -- The table of returns in specs/Entries.antt, row by row; then limits and rooms, and the arguments that are refused. Assumes nothing.
+use Rattle.std.specs.Prelude.{Err}
 use Prim.Native.Nat.{ℕ, zero, suc}
 use mathlib.Core.List.{List, [], ◌∷◌}
 use mathlib.Core.Path.{◌≡◌, refl}
@@ -11,8 +12,7 @@ use Rattle.fault.specs.declared.Fault.{Fault}
 use Rattle.literal.specs.Trace.{Trace, bytes, final, good, bad}
 use Rattle.literal.proofs.Computes.{the_places, the_characters, the_readings}
 use Rattle.literal.specs.declared.Terminator.{Terminator}
-use Rattle.literal.specs.declared.Scanned.{Scanned}
-use Rattle.literal.specs.declared.Scanned.TheVariants.{Accepted, Refused}
+use Rattle.literal.specs.Scans.{Scanned, accepted_as}
 use Rattle.classes.specs.Marks.{quote, hash, lf}
 use Rattle.literal.specs.Answers.{nothing, refusal}
 use Rattle.raw.specs.Raw.{as_source, hashes_of, raw_end}
@@ -83,12 +83,12 @@ abbrev within : ℕ → ℕ → List ℕ → Scanned
 within limit room t = resume_of as_source t 0 (given 1 1) 1 limit room
 
 pub cut-returns :
-    (within 1 1 (0xC3 ∷ 0xA9 ∷ []) ≡ Refused (refusal (fault 9 (given 1 1)) (cursor 0 (given 1 1)) nothing))
-    × (within 1 2 (0xC3 ∷ 0xA9 ∷ []) ≡ Refused (refusal (fault 7 (given 1 1)) (cursor 2 (given 1 2)) (hashes_of 1)))
-    × (within 0 0 (word "\"") ≡ Accepted (raw_end (cursor 1 (given 1 2)) (given 1 2) (hashes_of 1)) 0)
-    × (within 0 1 (word "\"a") ≡ Refused (refusal (fault 9 (given 1 1)) (cursor 0 (given 1 1)) nothing))
-    × (within 3 3 (word "abc\"#") ≡ Accepted (raw_end (cursor 5 (given 1 6)) (given 1 2) nothing) 3)
-    × (within 2 3 (word "abc\"#") ≡ Refused (refusal (fault 7 (given 1 1)) (cursor 3 (given 1 4)) (hashes_of 1)))
+    (within 1 1 (0xC3 ∷ 0xA9 ∷ []) ≡ Err (refusal (fault 9 (given 1 1)) (cursor 0 (given 1 1)) nothing))
+    × (within 1 2 (0xC3 ∷ 0xA9 ∷ []) ≡ Err (refusal (fault 7 (given 1 1)) (cursor 2 (given 1 2)) (hashes_of 1)))
+    × (within 0 0 (word "\"") ≡ accepted_as (raw_end (cursor 1 (given 1 2)) (given 1 2) (hashes_of 1)) 0)
+    × (within 0 1 (word "\"a") ≡ Err (refusal (fault 9 (given 1 1)) (cursor 0 (given 1 1)) nothing))
+    × (within 3 3 (word "abc\"#") ≡ accepted_as (raw_end (cursor 5 (given 1 6)) (given 1 2) nothing) 3)
+    × (within 2 3 (word "abc\"#") ≡ Err (refusal (fault 7 (given 1 1)) (cursor 3 (given 1 4)) (hashes_of 1)))
 unfolding the_places the_characters the_readings the_raw_rules the_raw_entries
 cut-returns = (refl, refl, refl, refl, refl, refl)
 

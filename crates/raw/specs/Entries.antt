@@ -38,7 +38,7 @@ use Rattle.door.specs.Door.{door_of}
 use Rattle.chars.specs.declared.cursor.Cursor.{Cursor}
 use Rattle.literal.specs.Trace.{Trace, fails}
 use Rattle.literal.specs.Cut.{cut}
-use Rattle.literal.specs.declared.Scanned.{Scanned}
+use Rattle.literal.specs.Scans.{Scanned}
 use Rattle.literal.specs.Answers.{as_given, full}
 use Rattle.raw.specs.Raw.{read_of, Newlines}
 

@@ -1,4 +1,5 @@
+pub mod Answer
+pub mod Entries
 pub mod Opening
 pub mod Raw
 pub mod Step
-pub mod Entries

@@ -1,5 +1,5 @@
 -- The opening of a raw literal: document 01, "Raw literal", and the Rust's `parse_raw_string_literal` up to where the body begins.
-use Rattle.std.specs.Prelude.{ℕ, ◌+◌, List, [], ◌∷◌, eqb}
+use Rattle.std.specs.Prelude.{ℕ, ◌+◌, List, [], ◌∷◌, eqb, Err, Ok}
 use Rattle.basis.specs.Types.{Offset, Text}
 use Rattle.basis.specs.Pick.{pick}
 use Rattle.position.specs.declared.Position.{Position}
@@ -12,13 +12,7 @@ use Rattle.chars.specs.declared.cursor.Cursor.{Cursor}
 use Rattle.fault.specs.Faults.{part, fault, unterminated_string, unexpected_input}
 use Rattle.literal.specs.Answers.{nothing, refusal}
 use Rattle.literal.specs.declared.Refusal.{Refusal}
-use Rattle.raw.specs.declared.open.Opened.{Opened}
-use Rattle.raw.specs.declared.open.Opened.TheVariants.{At, Refused}
-
--- the refusal that it tells; of an opened literal one by number 0, at no place
-unfoldable pub refusal_of : Opened → Refusal
-refusal_of (At k from) = refusal (fault 0 none) from nothing
-refusal_of (Refused f) = f
+use Rattle.raw.specs.Answer.{Opened, opened_as}
 
 -- where a scan of the opening stands: it has counted so many hashes, and is at a place
 pub record Counted : Type 0 where
@@ -30,15 +24,15 @@ counted k p = record { hashes = k; place = p }
 
 -- where the text ends before the quote: 4
 unfoldable pub cut_off : Position → Offset → Counted → Opened
-cut_off start at s = Refused (refusal (unterminated_string start) (cursor at s.place) nothing)
+cut_off start at s = Err (refusal (unterminated_string start) (cursor at s.place) nothing)
 
 -- one character after the first hash: the quote that opens the body, another hash, or 5, whose offset is past the character and whose position is not
 unfoldable pub opening_turn : Position → Offset → List Ch → Counted → Turn Counted (Unit {0}) Opened
 opening_turn start at [] s = stop (cut_off start at s)
 opening_turn start at (c ∷ cs) s =
-    pick (eqb c.code quote) (stop (At s.hashes (cursor (at + c.width) (advanced s.place))))
+    pick (eqb c.code quote) (stop (opened_as s.hashes (cursor (at + c.width) (advanced s.place))))
     (pick (eqb c.code hash) (go tt 0 (counted (s.hashes + 1) (advanced s.place)))
-    (stop (Refused (refusal (unexpected_input start (part at c.width)) (cursor (at + c.width) s.place) nothing))))
+    (stop (Err (refusal (unexpected_input start (part at c.width)) (cursor (at + c.width) s.place) nothing))))
 
 -- the rule for a literal whose start is at a place
 abbrev pub opening_rule : Position → Rule Counted (Unit {0}) Opened
@@ -46,4 +40,4 @@ opening_rule start = record { turn = opening_turn start; end = cut_off start; no
 
 -- what the opening leads to, by the Rust's hash count: 0 says that the literal is entered after its first hash, any other that it is resumed in its body
 unfoldable pub opened_of : Text → Cursor → ℕ → Opened
-opened_of t start k = pick (eqb k 0) (run_at (opening_rule start.place) t start.at (counted 1 start.place)) (At k start)
+opened_of t start k = pick (eqb k 0) (run_at (opening_rule start.place) t start.at (counted 1 start.place)) (opened_as k start)

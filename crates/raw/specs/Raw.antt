@@ -1,5 +1,5 @@
 -- The reading of a raw literal: document 01, "Raw literal", and the Rust's `parse_raw_string_literal`. Its opening is in Opening, and what the entries ask first in Entries.
-use Rattle.std.specs.Prelude.{ℕ, zero, suc, ◌+◌, Bool, true, false, List, [], ◌∷◌, ◌++◌, eqb, ltb, replicate}
+use Rattle.std.specs.Prelude.{ℕ, zero, suc, ◌+◌, Bool, true, false, List, [], ◌∷◌, ◌++◌, eqb, ltb, replicate, Err, Ok}
 use Rattle.basis.specs.Types.{Bytes, Code, Offset, Text}
 use Rattle.basis.specs.Pick.{pick, both}
 use Rattle.position.specs.declared.Position.{Position}
@@ -15,8 +15,7 @@ use Rattle.literal.specs.declared.End.{End}
 use Rattle.classes.specs.Marks.{lf, quote, hash}
 use Rattle.literal.specs.Answers.{nothing, ending, too_long}
 use Rattle.raw.specs.Opening.{opened_of}
-use Rattle.raw.specs.declared.open.Opened.{Opened}
-use Rattle.raw.specs.declared.open.Opened.TheVariants as opened
+use Rattle.raw.specs.Answer.{Opened}
 
 -- which line feeds of a body start a line: the source's rule, by which one that ends an attempt to close starts none; or the corrected one, by which each does
 pub data Newlines : Type 0 where
@@ -86,8 +85,8 @@ body_of mode t start k from = run_at (body_rule mode start k) t from.at (body_st
 
 -- the reading that is left behind the opening
 abbrev pub behind_opening : Newlines → Text → Position → Opened → Trace
-behind_opening mode t start (opened.At k from) = body_of mode t start k from
-behind_opening mode t start (opened.Refused f) = fails f
+behind_opening mode t start (Ok (k, from)) = body_of mode t start k from
+behind_opening mode t start (Err f) = fails f
 
 -- the reading of a text from a cursor by the unlimited rules, with the Rust's hash count
 unfoldable pub read_of : Newlines → Text → Cursor → ℕ → Trace

@@ -1,10 +1,10 @@
 -- What the inner functions of the scan answer, and what a turn of the body tells.
+use Rattle.utf8.specs.Looks.{char_found}
 use Rattle.std.specs.Prelude.{ℕ, ◌+◌, ◌-◌, ◌≤◌, List, [], ◌∷◌, ◌≡◌, eqb, ltb, length}
 use Rattle.basis.specs.Types.{Code}
 use Rattle.basis.specs.Pick.{pick, both}
 use Rattle.position.specs.declared.Position.{Position}
 use Rattle.utf8.specs.Table.{look_at}
-use Rattle.utf8.specs.declared.Look.TheVariants.{Char}
 use Rattle.chars.specs.Cursors.{cursor}
 use Rattle.chars.specs.Scan.{on, move_at, run_at}
 use Rattle.chars.specs.Stretch.{NextChar}
@@ -32,11 +32,11 @@ Failing c = (c ≡ quote → ⊥) × (c ≡ hash → ⊥)
 -- so many hashes stand one behind the other from an offset on
 pub data Hashes (t : List ℕ) (at : ℕ) : ℕ → Type 0 where
   none : Hashes t at 0
-  more : {n : ℕ} → Hashes t at n → look_at t (at + n) ≡ Char hash 1 → Hashes t at (n + 1)
+  more : {n : ℕ} → Hashes t at n → look_at t (at + n) ≡ char_found hash 1 → Hashes t at (n + 1)
 
 -- what a quote with so many hashes behind it is passed with, by what stands at the offset behind them: no more before another quote, which begins the attempt anew; else the character that ends the attempt
 pub data LostAt (t : List ℕ) (hashes at : ℕ) : Lost → Type 0 where
-  again : look_at t at ≡ Char quote 1 → LostAt t hashes at (record { width = hashes + 1; columns = hashes + 1 })
+  again : look_at t at ≡ char_found quote 1 → LostAt t hashes at (record { width = hashes + 1; columns = hashes + 1 })
   ended : {w : ℕ} → NextChar t Failing at (length t) w → LostAt t hashes at (record { width = hashes + w + 1; columns = hashes + 2 })
 
 -- characters passed at once in a literal that k hashes close leave what a limit and a room make of the rest: from one stand to another, further on, with a body that has grown as much

@@ -13,7 +13,7 @@ ghost use Rattle.raw.specs.Entries.{raw_trace, resumes_of, parse_trace, parse_of
 
 use chars::cursor::Cursor;
 use fault::Fault;
-use literal::Scanned;
+use literal::{Refusal, Scanned};
 use position::Position;
 
 // What the arguments of a scan refuse, by number; 0 for nothing.
@@ -51,14 +51,11 @@ fn read(
     ensures out_after { out.new ≡ wrote result (raw_trace as_source number text.now start hashes) out.old }
 {
     if number != 0 {
-        return Scanned::as_given(number, start);
+        return Err(Refusal::as_given(number, start));
     }
-    let scanned = scan::measure(text, start, hashes, limit, out.len());
-    let Scanned::Accepted(_, len) = scanned else {
-        return scanned;
-    };
+    let (end, len) = scan::measure(text, start, hashes, limit, out.len())?;
     write::write(text, start, hashes, len, out);
-    scanned
+    Ok((end, len))
 }
 
 // The scan of a raw literal from after its first `#`, which is asked as a hash count of 1. The body is written to the front of

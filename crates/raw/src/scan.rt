@@ -1,21 +1,20 @@
 // The scan of a raw string literal: the Rust's `parse_raw_string_literal` with nothing written.
+ghost use Rattle.literal.specs.Scans.{accepted_as};
+ghost use Rattle.utf8.specs.Looks.{char_found};
 ghost use Rattle.std.specs.Prelude.{true, ◌≡◌, ℕ, ◌+◌, ◌≤◌, ◌<◌, length};
 ghost use Rattle.utf8.specs.Table.{look_at};
-ghost use Rattle.utf8.specs.declared.Look.TheVariants.{Char};
 ghost use Rattle.chars.specs.Stretch.{NextChar};
 ghost use Rattle.literal.specs.Cut.{cut};
-ghost use Rattle.literal.specs.declared.Scanned.TheVariants as Scanned;
 ghost use Rattle.classes.specs.Marks.{quote};
 ghost use Rattle.literal.specs.Answers.{full};
 ghost use Rattle.raw.specs.Raw.{as_source, raw_end, body_of, read_of};
 ghost use Rattle.raw.specs.Step.{held_behind, cursor_behind, Failing, Hashes, LostAt, BodyPasses};
 
 use crate::open;
-use crate::open::Opened;
-use chars::cursor::{Cursor, Taken};
+use chars::cursor::Cursor;
 use classes::marks::{HASH, LF, QUOTE};
 use fault::Fault;
-use literal::{End, Scanned, Terminator};
+use literal::{End, Refusal, Scanned, Terminator};
 use position::Position;
 
 // How many bytes are held back behind a character, a quote and the hashes after it, while an attempt to close lasts: a quote
@@ -53,7 +52,7 @@ fn behind(c: u32, held: usize, next: Cursor) -> Cursor
 
 // An accepted body of so many bytes.
 fn accept(cursor: Cursor, first: Position, on_record: Terminator, len: usize) -> Scanned
-    ensures { result ≡ Scanned.Accepted (raw_end cursor first on_record) len }
+    ensures { result ≡ accepted_as (raw_end cursor first on_record) len }
 {
     let end = End {
         cursor,
@@ -61,7 +60,7 @@ fn accept(cursor: Cursor, first: Position, on_record: Terminator, len: usize) ->
         on_record,
         interpolated: false,
     };
-    Scanned::Accepted(end, len)
+    Ok((end, len))
 }
 
 // Where a scan of the body stands: the cursor, the first place, and the length of the body.
@@ -116,7 +115,7 @@ fn failing(text: &[u8], at: usize) -> usize
 
 // Whether a quote stands at an offset.
 fn is_quote(text: &[u8], at: usize) -> bool
-    ensures { result ≡ true → look_at text.now at ≡ Char quote 1 }
+    ensures { result ≡ true → look_at text.now at ≡ char_found quote 1 }
 {
     if at < text.len() {
         return text[at] as u32 == QUOTE;
@@ -178,7 +177,7 @@ fn lost_at(text: &[u8], at: usize, hashes: usize) -> Lost
 
 // Passes a quote with the hashes behind it, too few to close: a line feed that ends the attempt to close starts no line.
 fn pass_attempt(text: &[u8], hashes: usize, limit: usize, room: usize, s: Stand) -> Stand
-    requires { (s.n ≤ room) × (look_at text.now s.here.at ≡ Char quote 1) × Hashes text.now (s.here.at + 1) hashes }
+    requires { (s.n ≤ room) × (look_at text.now s.here.at ≡ char_found quote 1) × Hashes text.now (s.here.at + 1) hashes }
     ensures { (k : ℕ) → hashes < k → BodyPasses text.now k limit room 0 s result }
 {
     let at = s.here.at;
@@ -203,7 +202,7 @@ fn pass_attempt(text: &[u8], hashes: usize, limit: usize, room: usize, s: Stand)
 
 // Passes a quote that closes nothing in a literal that k hashes close. Mostly no hash stands behind it, which is tried first.
 fn pass_quote(text: &[u8], k: usize, limit: usize, room: usize, s: Stand) -> Stand
-    requires { (1 ≤ k) × (s.n ≤ room) × (look_at text.now s.here.at ≡ Char quote 1) }
+    requires { (1 ≤ k) × (s.n ≤ room) × (look_at text.now s.here.at ≡ char_found quote 1) }
     ensures { BodyPasses text.now k limit room 0 s result }
 {
     let at = s.here.at;
@@ -284,7 +283,7 @@ fn body_of(text: &[u8], start: Cursor, from: Cursor, k: usize, limit: usize, roo
         let s = ahead(text, k, limit, room, held, Stand { here, first, n });
         here = s.here;
         first = s.first;
-        let Taken::Char(c, next) = here.eat_next_and_advance(text) else {
+        let Some((c, next)) = here.eat_next_and_advance(text) else {
             return accept(here, first, on_record, s.n);
         };
         here = behind(c, held, next);
@@ -295,10 +294,10 @@ fn body_of(text: &[u8], start: Cursor, from: Cursor, k: usize, limit: usize, roo
         first = first.or_else(here.place);
         n = next.at - from.at - held;
         if room < n {
-            return Scanned::as_given(Fault::NO_LITERAL_ROOM, start);
+            return Err(Refusal::as_given(Fault::NO_LITERAL_ROOM, start));
         }
         if literal::is_over(limit, n) {
-            return Scanned::too_long(start.place, here, on_record);
+            return Err(Refusal::too_long(start.place, here, on_record));
         }
     }
 }
@@ -308,9 +307,6 @@ fn body_of(text: &[u8], start: Cursor, from: Cursor, k: usize, limit: usize, roo
 pub fn measure(text: &[u8], start: Cursor, hashes: usize, limit: usize, room: usize) -> Scanned
     ensures { result ≡ cut (full start) limit room 0 (read_of as_source text.now start hashes) }
 {
-    let opened = open::open(text, start, hashes);
-    let Opened::At(k, from) = opened else {
-        return Scanned::Refused(opened.refusal());
-    };
+    let (k, from) = open::open(text, start, hashes)?;
     body_of(text, start, from, k, limit, room)
 }

@@ -5,7 +5,6 @@ ghost use Rattle.literal.specs.Trace.{bytes};
 ghost use Rattle.raw.specs.Raw.{as_source, read_of};
 
 use crate::open;
-use crate::open::Opened;
 use chars::cursor::Cursor;
 
 // Writes the body of a literal that was measured and accepted, `len` bytes long, to the front of what is lent.
@@ -13,7 +12,7 @@ pub fn write(text: &[u8], start: Cursor, hashes: usize, len: usize, out: &mut [u
     requires { (start.at ≤ length text.now) × (len ≡ length (bytes (read_of as_source text.now start hashes))) × (len ≤ length out.old) }
     ensures { out.new ≡ sets out.old 0 (bytes (read_of as_source text.now start hashes)) }
 {
-    let Opened::At(_, from) = open::open(text, start, hashes) else {
+    let Ok((_, from)) = open::open(text, start, hashes) else {
         return;
     };
     let at = from.at;

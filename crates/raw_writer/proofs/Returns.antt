@@ -1,11 +1,11 @@
 -- Bodies and what is written of them, and the refusals in their order. Assumes nothing.
+use Rattle.std.specs.Prelude.{Err, Ok}
 use mathlib.Core.List.{[], ◌∷◌, ◌++◌}
 use mathlib.Core.Path.{◌≡◌, refl}
 use lib.ListN.{replicate}
 use Rattle.basis.specs.Words.{word}
 use Rattle.utf8.specs.Table.{look, well_from, well}
 use Rattle.lent.specs.Written.{written_of, left_of}
-use Rattle.lent.specs.declared.Written.TheVariants.{Done, Refused}
 use Rattle.raw_writer.specs.Writer.{hashes_ahead, most_after_quote, hashes_for, raw_literal_of, raw_write_of, raw_left_of}
 use Rattle.door.specs.Door.{text_of}
 
@@ -25,10 +25,10 @@ literals = (refl, refl, refl, refl, refl, refl, refl, refl, refl)
 
 -- what is not UTF-8 is 1 before 9; the rest of a larger room stays; a room one byte short is 9, and untouched
 pub answers :
-    (raw_write_of (0x80 ∷ []) [] ≡ Refused 1)
-    × (raw_write_of [] (replicate 3 7) ≡ Refused 9)
+    (raw_write_of (0x80 ∷ []) [] ≡ Err 1)
+    × (raw_write_of [] (replicate 3 7) ≡ Err 9)
     × (raw_left_of [] (replicate 3 7) ≡ replicate 3 7)
-    × (raw_write_of [] (replicate 4 7) ≡ Done 4)
+    × (raw_write_of [] (replicate 4 7) ≡ Ok 4)
     × (raw_left_of [] (replicate 6 7) ≡ word "#\"\"#" ++ replicate 2 7)
 unfolding word look well_from well written_of left_of hashes_ahead most_after_quote hashes_for raw_literal_of text_of raw_write_of raw_left_of
 answers = (refl, refl, refl, refl, refl)

@@ -1,4 +1,5 @@
 -- The writer's answer and what it leaves of what was lent, for each way out. Assumes nothing.
+use Rattle.std.specs.Prelude.{Err, Ok}
 use Prim.Native.Nat.{ℕ, ◌+◌, ◌*◌, ◌≤◌, ◌<◌}
 use native.Mathlib.Omega.{arith}
 use mathlib.Core.List.{List, ◌++◌, append_assoc}
@@ -11,8 +12,7 @@ use Rattle.basis.specs.Store.{stored, after, over, Stored}
 use Rattle.basis.proofs.Cases.{pick_cases}
 use Rattle.basis.proofs.Stores.{whole, and_then, sets_front}
 use Rattle.lent.specs.Written.{written_of}
-use Rattle.lent.specs.declared.Written.{Written}
-use Rattle.lent.specs.declared.Written.TheVariants.{Done, Refused}
+use Rattle.lent.specs.Answer.{Written}
 use Rattle.lent.proofs.Writes as lent
 use Rattle.door.proofs.Doors.{text_admitted}
 use Rattle.raw_writer.proofs.Hashes.{hashes_short}
@@ -32,7 +32,7 @@ length_literal body = simp (length-append, length-replicate) (omega arith)
 -- ---- the answers
 module _ (body memory : List ℕ) {n : ℕ} (e : n ≡ text_of body) where
   module _ (z : n ≡ 0 → ⊥) where
-    pub refused : Refused n ≡ raw_write_of body memory
+    pub refused : Err n ≡ raw_write_of body memory
     unfolding raw_write_of
     refused = rw (← e, ne_eqb n 0 z)
 
@@ -45,7 +45,7 @@ module _ (body memory : List ℕ) {n : ℕ} (e : n ≡ text_of body) where
     measured = rw q (sym (length_literal body))
 
     module _ (h : length memory < 2 * k + 2 + length body) where
-      pub no_room : Refused 9 ≡ raw_write_of body memory
+      pub no_room : Err 9 ≡ raw_write_of body memory
       unfolding raw_write_of
       no_room = rw (← e, eq-eqb n 0 z) (sym (lent.refused (raw_literal_of body) memory (rw measured at h)))
 
@@ -57,7 +57,7 @@ module _ (body memory : List ℕ) {n : ℕ} (e : n ≡ text_of body) where
       pub has_room : length (raw_literal_of body) ≤ length memory
       has_room = rw measured at h
 
-      pub done : Done (2 * k + 2 + length body) ≡ raw_write_of body memory
+      pub done : Ok (2 * k + 2 + length body) ≡ raw_write_of body memory
       unfolding raw_write_of
       done = rw (← e, eq-eqb n 0 z, measured) (sym (lent.done (raw_literal_of body) memory has_room))
 
@@ -97,17 +97,17 @@ module _ (body l₀ : List ℕ) {k : ℕ} (q : k ≡ hashes_for body) (h : lengt
       all.memory ∙ rw (q, parts body) (sets_front l₀ (raw_literal_of body) h)
 
 -- ---- how long a literal that is written can be
-not_done {ℓ} : {A : Type ℓ} {m n : ℕ} → Refused m ≡ Done n → A
+not_done {ℓ} : {A : Type ℓ} {m n : ℕ} → ◌≡◌ {A = Written} (Err m) (Ok n) → A
 not_done e = absurd (let z : ◌≡◌ {A = ℕ} 0 1 = cc in omega arith)
 
-done_is : {m n : ℕ} → Done m ≡ Done n → m ≡ n
+done_is : {m n : ℕ} → ◌≡◌ {A = Written} (Ok m) (Ok n) → m ≡ n
 done_is e = cc
 
-pub written_short : (body memory : List ℕ) {n : ℕ} → raw_write_of body memory ≡ Done n → n ≤ 50331652
+pub written_short : (body memory : List ℕ) {n : ℕ} → raw_write_of body memory ≡ Ok n → n ≤ 50331652
 unfolding raw_write_of written_of
 written_short body memory {n} =
-    pick_cases (λ (w : Written). w ≡ Done n → n ≤ 50331652) (eqb (text_of body) 0) _ _
-    (λ q. pick_cases (λ (w : Written). w ≡ Done n → n ≤ 50331652) (ltb (length memory) (length (raw_literal_of body))) _ _
+    pick_cases (λ (w : Written). w ≡ Ok n → n ≤ 50331652) (eqb (text_of body) 0) _ _
+    (λ q. pick_cases (λ (w : Written). w ≡ Ok n → n ≤ 50331652) (ltb (length memory) (length (raw_literal_of body))) _ _
     (λ r e. not_done e)
     (λ r e. omega (arith, done_is e, length_literal body, hashes_short body, is_short body refl (eqb-true (text_of body) 0 q))))
     (λ q e. not_done e)

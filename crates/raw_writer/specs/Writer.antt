@@ -1,12 +1,11 @@
 -- The raw writer: document 01, "Raw writer".
-use Rattle.std.specs.Prelude.{ℕ, suc, ◌≤◌, ◌<◌, max, List, [], ◌∷◌, ◌++◌, ◌≡◌, eqb, replicate}
+use Rattle.std.specs.Prelude.{ℕ, suc, ◌≤◌, ◌<◌, max, List, [], ◌∷◌, ◌++◌, ◌≡◌, eqb, replicate, Err}
 use Rattle.basis.specs.Types.{Text, Bytes}
 use Rattle.basis.specs.Pick.{pick}
 use Rattle.classes.specs.Marks.{quote, hash}
 use Rattle.door.specs.Door.{text_of}
 use Rattle.lent.specs.Written.{written_of, left_of}
-use Rattle.lent.specs.declared.Written.{Written}
-use Rattle.lent.specs.declared.Written.TheVariants.{Refused}
+use Rattle.lent.specs.Answer.{Written}
 
 -- how many hashes a text begins with
 unfoldable pub hashes_ahead : Text → ℕ
@@ -28,7 +27,7 @@ raw_literal_of body = replicate (hashes_for body) hash ++ quote ∷ body ++ quot
 
 -- the answer: the literal's length, or 2, 1, 9 in that order
 unfoldable pub raw_write_of : Text → Bytes → Written
-raw_write_of body memory = pick (eqb (text_of body) 0) (written_of (raw_literal_of body) memory) (Refused (text_of body))
+raw_write_of body memory = pick (eqb (text_of body) 0) (written_of (raw_literal_of body) memory) (Err (text_of body))
 
 -- the lent memory then: the literal and the old rest, or untouched where refused
 unfoldable pub raw_left_of : Text → Bytes → Bytes

@@ -1,7 +1,7 @@
 // The raw writer: a body between hashes and quotes, so that the raw scanner reads it back.
 #![tactic(auto)]
 
-ghost use Rattle.std.specs.Prelude.{◌≡◌, ◌≤◌, max, length};
+ghost use Rattle.std.specs.Prelude.{◌≡◌, ◌≤◌, length};
 ghost use Rattle.basis.specs.Store.{over};
 ghost use Rattle.raw_writer.specs.Step.{next_held};
 ghost use Rattle.raw_writer.specs.Writer.{hashes_for, raw_literal_of, raw_write_of, raw_left_of};
@@ -10,29 +10,16 @@ use fault::Fault;
 use lent::Written;
 
 // A quote begins a run, a hash goes on with one, and any other byte ends it. The run's length then.
+#[tactic(auto, unfolding(crate::specs::Step::next_held))]
 fn next_held(held: usize, c: u8) -> usize
     requires { held ≤ 16777216 }
     ensures { result ≡ next_held held c }
 {
-    if c == b'"' {
-        return 1;
+    match c {
+        b'"' => 1,
+        b'#' if held != 0 => held + 1,
+        _ => 0,
     }
-    if c == b'#' {
-        if held == 0 {
-            return 0;
-        }
-        return held + 1;
-    }
-    0
-}
-
-fn larger(a: usize, b: usize) -> usize
-    ensures { result ≡ max a b }
-{
-    if a < b {
-        return b;
-    }
-    a
 }
 
 // Measures: how many hashes a body is written with. A run of a quote and n hashes is n + 1 bytes
@@ -43,11 +30,9 @@ fn hashes_for(body: &[u8]) -> usize
 {
     let mut hashes: usize = 1;
     let mut held: usize = 0;
-    let mut i: usize = 0;
-    while i < body.len() {
-        held = next_held(held, body[i]);
-        hashes = larger(hashes, held);
-        i += 1;
+    for c in body {
+        held = next_held(held, *c);
+        hashes = hashes.max(held);
     }
     hashes
 }
@@ -57,11 +42,11 @@ fn write(body: &[u8], hashes: usize, out: &mut [u8])
     requires { (hashes ≡ hashes_for body.now) × (length (raw_literal_of body.now) ≤ length out.old) }
     ensures { out.new ≡ over (raw_literal_of body.now) out.old }
 {
-    let opened = lent::fill(b'#', hashes, &mut *out, 0);
-    let begun = lent::fill(b'"', 1, &mut *out, opened);
-    let ended = lent::copy(body, &mut *out, begun);
-    let closed = lent::fill(b'"', 1, &mut *out, ended);
-    lent::fill(b'#', hashes, &mut *out, closed);
+    let opened = lent::fill(b'#', hashes, out, 0);
+    let begun = lent::fill(b'"', 1, out, opened);
+    let ended = lent::copy(body, out, begun);
+    let closed = lent::fill(b'"', 1, out, ended);
+    lent::fill(b'#', hashes, out, closed);
 }
 
 // The raw literal of a body, at the front of what is lent. A literal that is longer than a script may
@@ -72,13 +57,13 @@ pub fn raw_write(body: &[u8], out: &mut [u8]) -> Written
 {
     let number = door::text(body);
     if number != 0 {
-        return Written::Refused(number);
+        return Err(number);
     }
     let hashes = hashes_for(body);
     let len = 2 * hashes + 2 + body.len();
     if out.len() < len {
-        return Written::Refused(Fault::NO_LITERAL_ROOM);
+        return Err(Fault::NO_LITERAL_ROOM);
     }
-    write(body, hashes, &mut *out);
-    Written::Done(len)
+    write(body, hashes, out);
+    Ok(len)
 }

@@ -13,7 +13,7 @@ use Rattle.reading.specs.Reading.{Reading, finishes, halts, spoils, lists, reads
 use Rattle.literal.specs.Answers.{full}
 use Rattle.reading.specs.CutRun.{scanned, in_room, cut_run}
 use Rattle.reading.specs.declared.Bounds.{Bounds}
-use Rattle.reading.specs.declared.Ending.{Ending}
+use Rattle.reading.specs.Endings.{Ending}
 use Rattle.reading.proofs.Limits.{on_scan_lem}
 
 -- behind n entries and so many literal bytes

@@ -1,4 +1,5 @@
 -- What passes in a reading, and what the bounds leave of it, over any reading. Assumes nothing.
+use Rattle.std.specs.Prelude.{Err, Ok}
 use Prim.Native.Nat.{ℕ, ◌+◌, ◌-◌, ◌≤◌}
 use native.Mathlib.Omega.{arith}
 use native.Mathlib.Nat.{add-zero}
@@ -17,15 +18,13 @@ use Rattle.fault.specs.Faults.{no_token_room, Own}
 use Rattle.chars.specs.declared.cursor.Cursor.{Cursor}
 use Rattle.literal.specs.declared.End.{End}
 use Rattle.literal.specs.declared.Refusal.{Refusal}
-use Rattle.literal.specs.declared.Scanned.{Scanned}
-use Rattle.literal.specs.declared.Scanned.TheVariants.{Accepted, Refused}
+use Rattle.literal.specs.Scans.{Scanned, accepted_as}
 use Rattle.literal.specs.Trace.{Trace, bytes, final, Outcome, good, bad}
 use Rattle.literal.specs.Told.{refusal_number}
 use Rattle.literal.specs.Cut.{answer}
 use Rattle.literal.specs.Limits.{FairTrace, Bound, string_limit, literal_room, token_room}
 use Rattle.literal.proofs.Limits.{accepted_whole, recurs_whole, stays_accepted, own_refusal, cut_there, uncut_else, RefusedBy, cuts_by, CutOrNot, cut_decided}
-use Rattle.reading.specs.declared.Ending.{Ending}
-use Rattle.reading.specs.declared.Ending.TheVariants.{Stop}
+use Rattle.reading.specs.Endings.{Ending}
 use Rattle.reading.specs.Reading.{Token, Reading, finishes, halts, spoils, lists, reads, Kept, kept, kept_part, Left, nothing_more, more, on_outcome, whole}
 use Rattle.literal.specs.Answers.{full}
 use Rattle.reading.specs.CutRun.{scanned, on_scan, cut_run}
@@ -61,11 +60,11 @@ use Rattle.reading.specs.Limits.{
 
 -- ---- cases
 -- what holds of a run that goes on behind a scan, and of one that the scan stops, holds of what the scan leads to
-pub on_scan_lem : (P : Left → Type 0) (a : Scanned) (next : ℕ → Left) → ((e : End) (m : ℕ) → a ≡ Accepted e m → P (next m)) → ((f : Refusal) → a ≡ Refused f → P (nothing_more (Stop f.fault))) → P (on_scan a next)
-on_scan_lem P (Accepted e m) next h g = h e m refl
-on_scan_lem P (Refused f) next h g = g f refl
+pub on_scan_lem : (P : Left → Type 0) (a : Scanned) (next : ℕ → Left) → ((e : End) (m : ℕ) → a ≡ accepted_as e m → P (next m)) → ((f : Refusal) → a ≡ Err f → P (nothing_more (Err f.fault))) → P (on_scan a next)
+on_scan_lem P (Ok (e, m)) next h g = h e m refl
+on_scan_lem P (Err f) next h g = g f refl
 
-stop_is : {f g : Fault} → Stop f ≡ Stop g → f ≡ g
+stop_is : {f g : Fault} → ◌≡◌ {A = Ending} (Err f) (Err g) → f ≡ g
 stop_is h = cc
 
 -- ---- the tokens that are listed
@@ -100,11 +99,11 @@ in_wider n a c h e = lt-ltb n c (omega (arith, ltb-true n a e))
 
 module _ (b c : Bounds) (w : Wider b c) where
   -- a literal that is accepted stays accepted
-  accepted_wider : (used : ℕ) (s : Cursor) (t : Trace) (e : End) (m : ℕ) → scanned b used s t ≡ Accepted e m → scanned c used s t ≡ Accepted e m
+  accepted_wider : (used : ℕ) (s : Cursor) (t : Trace) (e : End) (m : ℕ) → scanned b used s t ≡ accepted_as e m → scanned c used s t ≡ accepted_as e m
   accepted_wider used s t e m h = stays_accepted (full s) b.limit c.limit (b.literals - used) (c.literals - used) t e m w.0 (omega (arith, w.1)) h
 
   -- one that is refused for no limit and no room stays refused
-  refused_wider : (used : ℕ) (s : Cursor) (t : Trace) (f : Refusal) → FairTrace s.place t → Own f.fault → scanned b used s t ≡ Refused f → scanned c used s t ≡ Refused f
+  refused_wider : (used : ℕ) (s : Cursor) (t : Trace) (f : Refusal) → FairTrace s.place t → Own f.fault → scanned b used s t ≡ Err f → scanned c used s t ≡ Err f
   unfolding refusal_number
   refused_wider used s t f sv own h =
       recurs_whole (full s) b.limit c.limit (b.literals - used) (c.literals - used) s.place t refl sv w.0 (omega (arith, w.1)) (λ e. own.0 (rw h at e)) (λ e. own.1 (rw h at e)) ∙ h
@@ -122,7 +121,7 @@ module _ (b c : Bounds) (w : Wider b c) where
       on_scan_lem (λ (l : Left). Begins l (cut_run c n used (reads k t r))) (scanned b used k.start t) _
       (λ e m h.
       rw (accepted_wider used k.start t e m h)
-      (pick_cases (λ (l : Left). Begins l (pick (ltb n c.entries) (more (kept k used m (bytes t)) (cut_run c (n + 1) (used + m) r)) (nothing_more (Stop (no_token_room k.start.place))))) (ltb n b.entries) _ _
+      (pick_cases (λ (l : Left). Begins l (pick (ltb n c.entries) (more (kept k used m (bytes t)) (cut_run c (n + 1) (used + m) r)) (nothing_more (Err (no_token_room k.start.place))))) (ltb n b.entries) _ _
       (λ g. rw (in_wider n _ _ w.2 g) (more_begins _ _ _ (repeat (n + 1) (used + m) r)))
       (λ g. nothing_begins _ _)))
       (λ g h. nothing_begins _ _)
@@ -132,7 +131,7 @@ repeats b c r w = repeat b c w 0 0 r
 
 -- ---- an ending that no limit and no room causes
 -- a stop for want of an entry is one of them
-not_ten {ℓ} : {A : Type ℓ} (p : Position) → EndsOwn (nothing_more (Stop (no_token_room p))) → A
+not_ten {ℓ} : {A : Type ℓ} (p : Position) → EndsOwn (nothing_more (Err (no_token_room p))) → A
 not_ten p h = absurd ((h _ refl).2 refl)
 
 module _ (b c : Bounds) (w : Wider b c) where
@@ -141,7 +140,7 @@ module _ (b c : Bounds) (w : Wider b c) where
   recur n used (finishes p) fair = λ own. refl
   recur n used (halts f) fair = λ own. refl
   recur n used (spoils s t f) fair =
-      on_scan_lem (λ (l : Left). EndsOwn l → on_scan (scanned c used s t) (λ m. nothing_more (Stop f)) ≡ l) (scanned b used s t) (λ m. nothing_more (Stop f))
+      on_scan_lem (λ (l : Left). EndsOwn l → on_scan (scanned c used s t) (λ m. nothing_more (Err f)) ≡ l) (scanned b used s t) (λ m. nothing_more (Err f))
       (λ e m h own. rw (accepted_wider b c w used s t e m h))
       (λ g h own. rw (refused_wider b c w used s t g fair.0 (own _ refl) h))
   recur n used (lists k r) fair =
@@ -152,7 +151,7 @@ module _ (b c : Bounds) (w : Wider b c) where
       on_scan_lem (λ (l : Left). EndsOwn l → cut_run c n used (reads k t r) ≡ l) (scanned b used k.start t) _
       (λ e m h.
       rw (accepted_wider b c w used k.start t e m h)
-      (pick_cases (λ (l : Left). EndsOwn l → pick (ltb n c.entries) (more (kept k used m (bytes t)) (cut_run c (n + 1) (used + m) r)) (nothing_more (Stop (no_token_room k.start.place))) ≡ l) (ltb n b.entries) _ _
+      (pick_cases (λ (l : Left). EndsOwn l → pick (ltb n c.entries) (more (kept k used m (bytes t)) (cut_run c (n + 1) (used + m) r)) (nothing_more (Err (no_token_room k.start.place))) ≡ l) (ltb n b.entries) _ _
       (λ g own. rw (in_wider n _ _ w.2 g) (ap (more (kept k used m (bytes t))) (recur (n + 1) (used + m) r fair.1 own)))
       (λ g own. not_ten k.start.place own)))
       (λ g h own. rw (refused_wider b c w used k.start t g fair.0 (own _ refl) h))
@@ -163,7 +162,7 @@ recurs b c r fair w own = recur b c w 0 0 r fair own
 -- ---- the token that passes
 module _ (b : Bounds) (used : ℕ) (s : Cursor) (t : Trace) where
   -- a literal that passes is refused at its start
-  passes_refused : (by : Bound) → FairTrace s.place t → LiteralPasses b used s t by → (f : Refusal) × (scanned b used s t ≡ Refused f) × (f.fault ≡ refused_by by s.place)
+  passes_refused : (by : Bound) → FairTrace s.place t → LiteralPasses b used s t by → (f : Refusal) × (scanned b used s t ≡ Err f) × (f.fault ≡ refused_by by s.place)
   passes_refused by sv (f, c) = (f, cut_there (full s) b.limit (b.literals - used) t by f c, same by (cuts_by (full s) b.limit (b.literals - used) s.place sv c))
     where
       same : (by : Bound) → RefusedBy (full s) b.limit (b.literals - used) s.place by f → f.fault ≡ refused_by by s.place
@@ -175,7 +174,7 @@ module _ (b : Bounds) (used : ℕ) (s : Cursor) (t : Trace) where
   passes_none : ((by : Bound) → LiteralPasses b used s t by → ⊥) → scanned b used s t ≡ answer (length (bytes t)) (final t)
   passes_none never = uncut_else (full s) b.limit (b.literals - used) t (λ by f c. never by (f, c))
 
-  read_so : ((by : Bound) → LiteralPasses b used s t by → ⊥) → {e : End} → final t ≡ good e → scanned b used s t ≡ Accepted e (length (bytes t))
+  read_so : ((by : Bound) → LiteralPasses b used s t by → ⊥) → {e : End} → final t ≡ good e → scanned b used s t ≡ accepted_as e (length (bytes t))
   unfolding answer
   read_so never q = passes_none never ∙ ap (answer (length (bytes t))) q
 
@@ -341,7 +340,7 @@ caused_not_own f (inr (inl e)) own = absurd (own.1 e)
 caused_not_own f (inr (inr e)) own = absurd (own.2 e)
 
 -- where nothing cuts, a run ends by a rule of its own
-stop_own : (g : Fault) → Own g → EndsOwn (nothing_more (Stop g))
+stop_own : (g : Fault) → Own g → EndsOwn (nothing_more (Err g))
 stop_own g own f h = rw (← stop_is h) own
 
 end_own : (start : Position) (t : Trace) → FairTrace start t → (o : Outcome) → final t ≡ o → (l : Left) → EndsOwn l → EndsOwn (on_outcome o l)

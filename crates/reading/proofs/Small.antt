@@ -1,4 +1,5 @@
 -- The numbers of what a run lists, and of how it ends, are u32, over any reading of a script of n bytes that tells small numbers. Assumes nothing.
+use Rattle.std.specs.Prelude.{Err, Ok}
 use Prim.Native.Nat.{ℕ, ◌+◌, ◌-◌, ◌≤◌}
 use native.Mathlib.Omega.{arith}
 use native.Mathlib.Nat.{add-zero}
@@ -15,8 +16,7 @@ use Rattle.literal.specs.Trace.{Trace, bytes}
 use Rattle.literal.specs.Limits.{FairTrace}
 use Rattle.literal.proofs.Limits.{accepted_whole}
 use Rattle.literal.proofs.Small.{Traced, ScannedTells, cut_tells}
-use Rattle.reading.specs.declared.Ending.{Ending}
-use Rattle.reading.specs.declared.Ending.TheVariants.{End, Stop}
+use Rattle.reading.specs.Endings.{Ending}
 use Rattle.reading.specs.Reading.{Token, Reading, finishes, halts, spoils, lists, reads, Kept, kept, kept_part, Left, entries, literal_bytes, nothing_more, more}
 use Rattle.literal.specs.Answers.{full}
 use Rattle.reading.specs.CutRun.{scanned, cut_run}
@@ -41,8 +41,8 @@ module _ (n : ℕ) where
   Readable (reads k t r) = TokenSmall k × Traced n t × Readable r
 
   abbrev pub EndingSmall : Ending → Type 0
-  EndingSmall (End p) = Small p
-  EndingSmall (Stop f) = Tells n f
+  EndingSmall (Ok p) = Small p
+  EndingSmall (Err f) = Tells n f
 
   -- within bounds, where no more than m literal bytes are packed
   module _ (b : Bounds) (m : ℕ) (few : m ≤ 4294967295) (short : n ≤ 4294967295) where
@@ -68,17 +68,17 @@ module _ (n : ℕ) where
     scanned_tells used s t p sv h = cut_tells n (full s) (fault_tells n 9 (omega arith) p) s.place p b.limit (b.literals - used) 0 t sv h
 
     -- no entry is left
-    no_entry : (used : ℕ) (p : Position) → Small p → Fitting used (nothing_more (Stop (no_token_room p)))
-    no_entry used p h = ended_fits used (Stop (no_token_room p)) (fault_tells n 10 (omega arith) h)
+    no_entry : (used : ℕ) (p : Position) → Small p → Fitting used (nothing_more (Err (no_token_room p)))
+    no_entry used p h = ended_fits used (Err (no_token_room p)) (fault_tells n 10 (omega arith) h)
 
     pub cut_fits_u32 : (i used : ℕ) (r : Reading) → Fair r → Readable r → Fitting used (cut_run b i used r)
     unfolding cut_run
-    cut_fits_u32 i used (finishes p) fair h = ended_fits used (End p) h
-    cut_fits_u32 i used (halts f) fair h = ended_fits used (Stop f) h
+    cut_fits_u32 i used (finishes p) fair h = ended_fits used (Ok p) h
+    cut_fits_u32 i used (halts f) fair h = ended_fits used (Err f) h
     cut_fits_u32 i used (spoils s t f) fair h =
         on_scan_lem (Fitting used) (scanned b used s t) _
-        (λ e k q. ended_fits used (Stop f) h.2)
-        (λ g q. ended_fits used (Stop g.fault) (subst (ScannedTells n) q (scanned_tells used s t h.0 fair.0 h.1)))
+        (λ e k q. ended_fits used (Err f) h.2)
+        (λ g q. ended_fits used (Err g.fault) (subst (ScannedTells n) q (scanned_tells used s t h.0 fair.0 h.1)))
     cut_fits_u32 i used (lists k r) fair h =
         pick_cases (Fitting used) (ltb i b.entries) _ _
         (λ y. more_fits used (kept_part k) (cut_run b (i + 1) used r) h.0.kind h.0.place (λ l. (omega (arith, h.0.starts), omega (arith, h.0.ends))) (rw (add-zero used) (cut_fits_u32 (i + 1) used r fair h.1)))
@@ -90,4 +90,4 @@ module _ (n : ℕ) where
         pick_cases (Fitting used) (ltb i b.entries) _ _
         (λ y. more_fits used (kept k used j (bytes t)) (cut_run b (i + 1) (used + j) r) h.0.kind h.0.place (λ l. (omega arith, omega (arith, w))) (rw (← w) (cut_fits_u32 (i + 1) (used + j) r fair.1 h.2)))
         (λ y. no_entry used k.start.place h.0.place))
-        (λ g q. ended_fits used (Stop g.fault) (subst (ScannedTells n) q (scanned_tells used k.start t h.0.place fair.0 h.1)))
+        (λ g q. ended_fits used (Err g.fault) (subst (ScannedTells n) q (scanned_tells used k.start t h.0.place fair.0 h.1)))

@@ -1,4 +1,5 @@
-pub mod Reading
 pub mod CutRun
+pub mod Endings
 pub mod Limits
+pub mod Reading
 pub mod Told

@@ -1,5 +1,5 @@
 -- What passes a limit or a room in a script's reading, and what the bounds leave of it then. Demand 3 is stated in crate promises, in these words; the proofs are in proofs/Limits.antt.
-use Rattle.std.specs.Prelude.{ℕ, ◌+◌, ◌-◌, ◌≤◌, List, [], ◌∷◌, ◌++◌, ◌⊎◌, ◌≡◌, length}
+use Rattle.std.specs.Prelude.{ℕ, ◌+◌, ◌-◌, ◌≤◌, List, [], ◌∷◌, ◌++◌, ◌⊎◌, ◌≡◌, length, Err}
 use Rattle.position.specs.declared.Position.{Position}
 use Rattle.fault.specs.declared.Fault.{Fault}
 use Rattle.fault.specs.Faults.{string_too_long, no_literal_room, no_token_room, Own}
@@ -12,7 +12,6 @@ use Rattle.literal.specs.Limits.{Looser, FairTrace, Bound, string_limit, literal
 use Rattle.reading.specs.Reading.{Token, Reading, finishes, halts, spoils, lists, reads, Kept, kept, kept_part, Left, whole}
 use Rattle.reading.specs.CutRun.{cut_run}
 use Rattle.reading.specs.declared.Bounds.{Bounds}
-use Rattle.reading.specs.declared.Ending.TheVariants.{Stop}
 
 -- in a script's reading, as in its literals', only a test of the limit is 7, and no rule of its own is 7, 9 or 10
 abbrev pub Fair : Reading → Type 0
@@ -33,7 +32,7 @@ pub record Begins (l m : Left) : Type 0 where
 
 -- a run's ending is caused by no limit and no room
 abbrev pub EndsOwn : Left → Type 0
-EndsOwn l = (f : Fault) → l.ending ≡ Stop f → Own f
+EndsOwn l = (f : Fault) → l.ending ≡ Err f → Own f
 
 -- a fault that a limit or a room causes: 7, 9 or 10
 abbrev pub Caused : Fault → Type 0
@@ -81,7 +80,7 @@ pub record FirstPast (b : Bounds) (n used : ℕ) (r : Reading) : Type 0 where
 
 -- what a run leaves that stops there
 abbrev pub stopped : List Kept → Bound → Position → Left
-stopped ks by p = record { tokens = ks; ending = Stop (refused_by by p) }
+stopped ks by p = record { tokens = ks; ending = Err (refused_by by p) }
 
 -- ---- what the bounds leave
 -- where a token passes, what is before the first such token, and its refusal
@@ -94,7 +93,7 @@ WholeElse = (b : Bounds) (r : Reading) → (FirstPast b 0 0 r → ⊥) → cut_r
 
 -- 7, 9 and 10 come only where a token passes
 abbrev pub OnlyThere : Type 0
-OnlyThere = (b : Bounds) (r : Reading) (f : Fault) → Fair r → (cut_run b 0 0 r).ending ≡ Stop f → Caused f → FirstPast b 0 0 r
+OnlyThere = (b : Bounds) (r : Reading) (f : Fault) → Fair r → (cut_run b 0 0 r).ending ≡ Err f → Caused f → FirstPast b 0 0 r
 
 -- the first tokens of the unlimited rules, with all that they leave
 abbrev pub ListsTheFirst : Type 0

@@ -1,13 +1,12 @@
 -- A script's reading by the unlimited rules, as a value: its tokens in their order, and how it ends. No limit and no room is in it.
-use Rattle.std.specs.Prelude.{ℕ, ◌+◌, ◌-◌, List, [], ◌∷◌, ◌++◌, length}
+use Rattle.std.specs.Prelude.{ℕ, ◌+◌, ◌-◌, List, [], ◌∷◌, ◌++◌, length, Err, Ok}
 use Rattle.position.specs.declared.Position.{Position}
 use Rattle.fault.specs.declared.Fault.{Fault}
 use Rattle.chars.specs.declared.cursor.Cursor.{Cursor}
 use Rattle.literal.specs.Trace.{Trace, bytes, final, Outcome, good, bad}
 use Rattle.entry.specs.declared.Entry.{Entry}
 use Rattle.entry.specs.Entries.{entry}
-use Rattle.reading.specs.declared.Ending.{Ending}
-use Rattle.reading.specs.declared.Ending.TheVariants.{End, Stop}
+use Rattle.reading.specs.Endings.{Ending}
 
 -- a token: its kind; the cursor at its first character, a literal's opener too, whose place is the token's; the cursor behind its last; and the numbers that it stands for, which no token has yet
 pub record Token : Type 0 where
@@ -67,12 +66,12 @@ more k l = record { tokens = k ∷ l.tokens; ending = l.ending }
 -- a literal that is accepted goes on; one that a rule of its own refuses stops the run
 abbrev pub on_outcome : Outcome → Left → Left
 on_outcome (good e) l = l
-on_outcome (bad f) l = nothing_more (Stop f.fault)
+on_outcome (bad f) l = nothing_more (Err f.fault)
 
 -- what a run leaves where nothing cuts it, with so many literal bytes packed before
 unfoldable pub whole : ℕ → Reading → Left
-whole used (finishes p) = nothing_more (End p)
-whole used (halts f) = nothing_more (Stop f)
-whole used (spoils s t f) = on_outcome (final t) (nothing_more (Stop f))
+whole used (finishes p) = nothing_more (Ok p)
+whole used (halts f) = nothing_more (Err f)
+whole used (spoils s t f) = on_outcome (final t) (nothing_more (Err f))
 whole used (lists k r) = more (kept_part k) (whole used r)
 whole used (reads k t r) = on_outcome (final t) (more (kept k used (length (bytes t)) (bytes t)) (whole (used + length (bytes t)) r))

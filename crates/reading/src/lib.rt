@@ -13,8 +13,4 @@ pub struct Bounds {
 }
 
 // The script's end and its place, or a stop that holds the fault and, inside it, its place.
-#[derive(Clone, Copy)]
-pub enum Ending {
-    End(Position),
-    Stop(Fault),
-}
+pub type Ending = Result<Position, Fault>;

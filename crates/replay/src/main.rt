@@ -4,7 +4,7 @@
 // each answer comes from.
 #![tactic(auto)]
 
-use line::Case;
+use line::{Case, Line};
 use std::io;
 use std::io::Read;
 
@@ -13,34 +13,26 @@ mod line;
 mod runs;
 mod show;
 
-// Writes what stands behind a line.
-fn finish(to: &impl Print, case: Case, texts: &[u8]) -> io::Result<()> {
-    let kind = case.name;
-    if kind < line::LEAST {
-        return Ok(());
-    }
-    show::word(to, show::ANSWER)?;
+// Writes what stands behind a case.
+fn finish(to: &impl Print, case: &Case) -> io::Result<()> {
+    show::word(to, "=")?;
     let mut out = [0u8; 256];
-    let n = ask::room(kind, case, &out);
-    ask::answer(to, kind, case, texts, &mut out[..n])
-}
-
-// Reads a byte of a line, and behind the last one writes the answer.
-fn turn(to: &impl Print, b: u8, case: Case, texts: &mut [u8]) -> io::Result<Case> {
-    let case = line::take(b, case, texts);
-    if b != b'\n' {
-        return Ok(case);
-    }
-    finish(to, case, texts)?;
-    Ok(Case::NEW)
+    let room = ask::room(case).min(out.len());
+    ask::answer(to, case, &mut out[..room])
 }
 
 // Writes the lines of the input, each case with its answer.
 fn replay<R: Read + Drop>(to: &impl Print, input: R, texts: &mut [u8]) -> io::Result<()> {
-    let mut case = Case::NEW;
+    let mut line = Line::NEW;
     for b in input.bytes() {
         let b = b?;
-        case = turn(to, b, case, &mut *texts)?;
+        line.take(b, texts);
+        if b == b'\n' {
+            if let Some(case) = line.case(texts) {
+                finish(to, &case)?;
+            }
+            line = Line::NEW;
+        }
         show::byte(to, b)?;
     }
     Ok(())

@@ -1,8 +1,7 @@
 // What is asked of whole scripts: a run, within a limit and rooms, and the listing.
-ghost use Rattle.std.specs.Prelude.{◌≡◌, ◌≤◌, length, take};
-
-use crate::line::{Case, part};
+use crate::line::Case;
 use crate::show;
+use entry::Entry;
 use reading::Ending;
 use std::io;
 
@@ -11,191 +10,104 @@ const BYTE: u8 = 255;
 
 const NUMBER: u32 = 4294967295;
 
-// How many bytes a case lends.
-fn literal_room(n: usize, literals: &[u8]) -> usize
-    ensures within { result ≤ length literals.now }
-    ensures front { result ≡ length (take result literals.now) }
-{
-    if n < literals.len() {
-        return n;
+// The numbers of an entry, a comma behind the last one.
+fn entry(to: &impl Print, numbers: &[u32]) -> io::Result<()> {
+    for n in numbers {
+        print!(to; " {n}")?;
     }
-    literals.len()
+    show::byte(to, b',')
 }
 
-// How many numbers a case lends.
-fn entry_room(n: usize, entries: &[u32]) -> usize
-    ensures within { result ≤ length entries.now }
-    ensures front { result ≡ length (take result entries.now) }
-{
-    if n < entries.len() {
-        return n;
-    }
-    entries.len()
-}
-
-// The numbers of the entries, a comma behind each fifth.
+// The numbers of the entries that are listed.
 fn entries(to: &impl Print, numbers: &[u32], listed: usize) -> io::Result<()> {
-    let mut i = 0;
-    while i < numbers.len() {
-        if listed <= i / 5 {
-            return Ok(());
-        }
-        show::number(to, wide(numbers[i]))?;
-        if i % 5 == 4 {
-            show::byte(to, b',')?;
-        }
-        i += 1;
+    for numbers in numbers.chunks_exact(Entry::NUMBERS).take(listed) {
+        entry(to, numbers)?;
     }
     Ok(())
-}
-
-fn wide(n: u32) -> usize {
-    n as usize
 }
 
 // How a run ended: a stop with its place and the part of the script that it is about.
 fn ending(to: &impl Print, e: Ending) -> io::Result<()> {
     match e {
-        Ending::End(p) => {
-            show::word(to, show::END)?;
+        Ok(p) => {
+            show::word(to, "end")?;
             show::place(to, p)
         }
-        Ending::Stop(f) => {
-            show::labelled(to, show::STOP, f.number as usize)?;
+        Err(f) => {
+            show::labelled(to, "stop", f.number as usize)?;
             show::place(to, f.place)?;
-            show::labelled(to, show::PART, f.part.at)?;
-            show::number(to, f.part.len)
+            show::part(to, f)
         }
     }
 }
 
-// Whether literal bytes are as they were from an index on.
-fn bytes_kept(bytes: &[u8], from: usize) -> bool {
-    let mut kept = true;
-    let mut i = 0;
-    while i < bytes.len() {
-        if bytes[i] != BYTE {
-            kept = i < from && kept;
-        }
-        i += 1;
-    }
-    kept
-}
-
-// Whether numbers are as they were behind the entries.
-fn numbers_kept(numbers: &[u32], listed: usize) -> bool {
-    let mut kept = true;
-    let mut i = 0;
-    while i < numbers.len() {
-        if numbers[i] != NUMBER {
-            kept = i / 5 < listed && kept;
-        }
-        i += 1;
-    }
-    kept
+// Whether what was lent is as it was behind what is used of it.
+fn is_kept<T: Copy + PartialEq>(lent: &[T], used: usize, blank: T) -> bool {
+    lent.iter().skip(used).all(|x| *x == blank)
 }
 
 // The entries, the ending, the literal bytes, and whether all else that was lent is as it was.
 fn within(
     to: &impl Print,
-    limit: usize,
-    script: &[u8],
-    book: &[u8],
+    case: &Case,
     literals: &mut [u8],
     numbers: &mut [u32],
 ) -> io::Result<()> {
-    let ran = run::run(script, book, limit, &mut *literals, &mut *numbers);
-    let used = ran.used;
-    let listed = ran.listed;
-    entries(to, numbers, listed)?;
+    let ran = run::run(
+        case.before,
+        case.last,
+        case.number(2),
+        &mut *literals,
+        &mut *numbers,
+    );
+    let numbers_used = ran.listed.saturating_mul(Entry::NUMBERS);
+    entries(to, numbers, ran.listed)?;
     ending(to, ran.ending)?;
-    show::word(to, show::LITERALS)?;
-    show::bytes(to, part(literals, 0, used))?;
-    show::word(to, show::KEPT)?;
+    show::word(to, "literals")?;
+    show::bytes(to, literals.get(..ran.used).unwrap_or_default())?;
+    show::word(to, "kept")?;
     show::truth(
         to,
-        bytes_kept(literals, used) && numbers_kept(numbers, listed),
+        is_kept(literals, ran.used, BYTE) && is_kept(numbers, numbers_used, NUMBER),
     )
 }
 
-// A run in the rooms that its case gives.
-pub(crate) fn run(to: &impl Print, case: Case, script: &[u8], book: &[u8]) -> io::Result<()> {
+// A run of a script and its book in the rooms that the case gives.
+pub(crate) fn run(to: &impl Print, case: &Case) -> io::Result<()> {
     let mut literals = [BYTE; 256];
     let mut numbers = [NUMBER; 500];
-    let room = literal_room(case.number(4), &literals);
-    let count = entry_room(case.number(6), &numbers);
-    within(
-        to,
-        case.number(2),
-        script,
-        book,
-        &mut literals[..room],
-        &mut numbers[..count],
-    )
+    let room = case.number(4).min(literals.len());
+    let count = case.number(6).min(numbers.len());
+    within(to, case, &mut literals[..room], &mut numbers[..count])
 }
 
 // A text with `|` for each line feed.
 fn lines(to: &impl Print, text: &[u8]) -> io::Result<()> {
     show::byte(to, b' ')?;
-    let mut i = 0;
-    while i < text.len() {
-        let b = text[i];
-        if b == b'\n' {
-            show::byte(to, b'|')?;
-        } else {
-            show::byte(to, b)?;
-        }
-        i += 1;
+    for b in text {
+        show::byte(to, if *b == b'\n' { b'|' } else { *b })?;
     }
     Ok(())
 }
 
-// One line more behind a line feed; a listing has few.
-fn counted(n: usize, b: u8) -> usize {
-    if b == b'\n' {
-        if n < 65536 {
-            return n + 1;
-        }
-    }
-    n
-}
-
-// How many lines a text has.
-fn count(text: &[u8]) -> usize {
-    let mut n = 0;
-    let mut i = 0;
-    while i < text.len() {
-        n = counted(n, text[i]);
-        i += 1;
-    }
-    n
-}
-
-// Where the last line of a text begins.
-fn last_from(text: &[u8]) -> usize {
-    let mut from = 0;
-    let mut i = 1;
-    while i < text.len() {
-        if text[i - 1] == b'\n' {
-            from = i;
-        }
-        i += 1;
-    }
-    from
+// The listing of a script, in memory that is lent to it.
+fn listed<'a>(script: &[u8], out: &'a mut [u8]) -> &'a [u8] {
+    let n = listed::list(script, out);
+    &out[..n]
 }
 
 // The listing of a script.
 pub(crate) fn listing(to: &impl Print, script: &[u8]) -> io::Result<()> {
     let mut out = [0u8; 180000];
-    let n = listed::list(script, &mut out);
-    lines(to, part(&out, 0, n))
+    lines(to, listed(script, &mut out))
 }
 
 // Its last line, and how many lines it has.
 pub(crate) fn last(to: &impl Print, script: &[u8]) -> io::Result<()> {
     let mut out = [0u8; 180000];
-    let n = listed::list(script, &mut out);
-    let text = part(&out, 0, n);
-    show::labelled(to, show::LINES, count(text))?;
-    lines(to, part(text, last_from(text), text.len()))
+    let text = listed(script, &mut out);
+    let count = text.iter().filter(|b| **b == b'\n').count();
+    show::labelled(to, "lines", count)?;
+    let last = text.split_inclusive(|b| *b == b'\n').last();
+    lines(to, last.unwrap_or_default())
 }

@@ -13,7 +13,7 @@ use Rattle.reading.specs.CutRun.{cut_run}
 use Rattle.reading.specs.declared.Bounds.{Bounds}
 use Rattle.entry.specs.Entries.{laid_out}
 use Rattle.entry.specs.declared.Entry.{Entry}
-use Rattle.reading.specs.declared.Ending.{Ending}
+use Rattle.reading.specs.Endings.{Ending}
 use Rattle.script.specs.Rules.{Rules}
 use Rattle.script.specs.Steps.{Step, step_of}
 use Rattle.script.specs.declared.State.{State}

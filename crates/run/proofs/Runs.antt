@@ -1,4 +1,5 @@
 -- What a run has left when it is over, in the words of its contract. Assumes nothing.
+use Rattle.std.specs.Prelude.{Err}
 use Prim.Native.Nat.{ℕ, zero, suc, ◌≤◌, ◌<◌}
 use native.Mathlib.Omega.{arith}
 use native.Mathlib.Nat.{zero-add}
@@ -18,8 +19,7 @@ use Rattle.reading.specs.declared.Bounds.{Bounds}
 use Rattle.script.specs.Rules.{Rules}
 use Rattle.entry.specs.Entries.{laid_out}
 use Rattle.entry.specs.declared.Entry.{Entry}
-use Rattle.reading.specs.declared.Ending.{Ending}
-use Rattle.reading.specs.declared.Ending.TheVariants.{Stop}
+use Rattle.reading.specs.Endings.{Ending}
 use Rattle.reading.proofs.Fits.{cut_fits}
 use Rattle.script.specs.Script.{script_of}
 use Rattle.script.specs.States.{begun_at, begun}
@@ -79,17 +79,17 @@ module _ (rules : Rules) (b : Bounds) (t book : List ℕ) where
   unfolding run_of run_reading
   run_read z = rw (eq-eqb (refuses_of t book) 0 z)
 
-  pub run_refused : (refuses_of t book ≡ 0 → ⊥) → run_of rules b t book ≡ nothing_more (Stop (fault (refuses_of t book) start))
+  pub run_refused : (refuses_of t book ≡ 0 → ⊥) → run_of rules b t book ≡ nothing_more (Err (fault (refuses_of t book) start))
   unfolding run_of run_reading cut_run
   run_refused n = rw (ne_eqb (refuses_of t book) 0 n)
 
   -- a script that is too long is 2 at START, whatever it holds: D76 (2) of docs/DECISIONS.md, whose script no program of the gate can hold
-  pub too_long_run : 16777216 < length t → run_of rules b t book ≡ nothing_more (Stop (fault 2 start))
+  pub too_long_run : 16777216 < length t → run_of rules b t book ≡ nothing_more (Err (fault 2 start))
   too_long_run h =
       let two = too_long t book h in
       rw two at (run_refused (λ z. let no : 2 ≡ 0 = sym two ∙ z in omega (arith, no)))
 
   -- what is refused leaves the memory as it was
-  pub refused_call : (refuses_of t book ≡ 0 → ⊥) → (laid : Entry → List ℕ) (ls es : List ℕ) → called (ran_of (nothing_more (Stop (fault (refuses_of t book) start)))) ls es ≡ holds laid (run_of rules b t book) ls es
+  pub refused_call : (refuses_of t book ≡ 0 → ⊥) → (laid : Entry → List ℕ) (ls es : List ℕ) → called (ran_of (nothing_more (Err (fault (refuses_of t book) start)))) ls es ≡ holds laid (run_of rules b t book) ls es
   unfolding laid_out entries literal_bytes
   refused_call n laid ls es = rw (run_refused n)

@@ -9,7 +9,7 @@ use lib.ListN.{length, length-append}
 use borrow.Author.Tests.{eqb-true, eqb-false}
 use Rattle.reading.specs.Reading.{Kept, Left, entries, literal_bytes, nothing_more, more}
 use Rattle.reading.specs.declared.Bounds.{Bounds}
-use Rattle.reading.specs.declared.Ending.{Ending}
+use Rattle.reading.specs.Endings.{Ending}
 use Rattle.script.specs.Rules.{Rules}
 use Rattle.script.specs.Script.{script_of}
 use Rattle.script.specs.Steps.{Step, step_of}

@@ -1,4 +1,5 @@
 -- The numbers of what a run lists, and of how it ends, are u32. Assumes nothing.
+use Rattle.std.specs.Prelude.{Err, Ok}
 use Prim.Native.Nat.{ℕ, ◌*◌, ◌≤◌}
 use native.Mathlib.Omega.{arith}
 use mathlib.Core.Bool.{Bool, true, false}
@@ -16,8 +17,7 @@ use Rattle.reading.specs.declared.Bounds.{Bounds}
 use Rattle.script.specs.Rules.{Rules}
 use Rattle.entry.specs.Entries.{numbers_of, laid_out, U32s}
 use Rattle.reading.specs.Limits.{Fair}
-use Rattle.reading.specs.declared.Ending.{Ending}
-use Rattle.reading.specs.declared.Ending.TheVariants.{End, Stop}
+use Rattle.reading.specs.Endings.{Ending}
 use Rattle.reading.proofs.Small.{Readable, EndingSmall, cut_fits_u32}
 use Rattle.script.specs.Script.{script_of}
 use Rattle.script.specs.States.{begun_at, begun}
@@ -32,8 +32,8 @@ use Rattle.run.proofs.Short.{run_short_lem}
 
 -- in a longer script too
 longer : (n m : ℕ) → n ≤ m → (e : Ending) → EndingSmall n e → EndingSmall m e
-longer n m h (End p) k = k
-longer n m h (Stop f) k = record { number = k.number; place = k.place; at = omega (arith, k.at); len = omega (arith, k.len) }
+longer n m h (Ok p) k = k
+longer n m h (Err f) k = record { number = k.number; place = k.place; at = omega (arith, k.at); len = omega (arith, k.len) }
 
 early_small : (n : ℕ) → Early n → n ≤ 15
 early_small n (inl h) = omega arith

@@ -1,3 +1,3 @@
 pub mod Run
 pub mod Bytes
-pub mod Layouts
+pub mod Widths

@@ -4,20 +4,10 @@ ghost use Rattle.run.specs.Run.{called, run_call};
 ghost use Rattle.run.specs.Bytes.{entry_bytes};
 
 use crate::Ran;
-use crate::layout::Layout;
 
 // The run, as its other form.
 pub fn run(script: &[u8], book: &[u8], limit: usize, literals: &mut [u8], entries: &mut [u8]) -> Ran
     ensures { called result literals.new entries.new ≡ run_call 20 entry_bytes script.now book.now limit literals.old entries.old }
 {
-    let mut none: [u32; 1] = [0; 1];
-    crate::run_as(
-        Layout::Bytes,
-        script,
-        book,
-        limit,
-        literals,
-        &mut none,
-        entries,
-    )
+    crate::run_as(script, book, limit, literals, entries)
 }

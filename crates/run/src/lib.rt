@@ -5,16 +5,14 @@ pub mod bytes;
 mod layout;
 mod tokens;
 
-ghost use Rattle.std.specs.Prelude.{◌≡◌};
+ghost use Rattle.std.specs.Prelude.{◌≡◌, Err};
 ghost use Rattle.position.specs.Place.{start};
 ghost use Rattle.fault.specs.Faults.{fault};
 ghost use Rattle.entry.specs.Entries.{numbers_of};
 ghost use Rattle.reading.specs.Reading.{nothing_more};
-ghost use Rattle.reading.specs.declared.Ending.TheVariants.{Stop};
 ghost use Rattle.run.specs.Run.{ran_of, called, run_call};
-ghost use Rattle.run.specs.Layouts.{entry_width, laid_by, memory_of};
 
-use crate::layout::Layout;
+use crate::layout::Part;
 use fault::Fault;
 use position::Position;
 use reading::Ending;
@@ -29,32 +27,31 @@ pub struct Ran {
 
 // What is refused at the door is refused at START, and nothing is listed.
 fn refused(number: u8) -> Ran
-    ensures { result ≡ ran_of (nothing_more (Stop (fault number start))) }
+    ensures { result ≡ ran_of (nothing_more (Err (fault number start))) }
 {
     Ran {
-        ending: Ending::Stop(Fault::at(number, Position::START)),
+        ending: Err(Fault::at(number, Position::START)),
         listed: 0,
         used: 0,
     }
 }
 
-// The run with its entries in a layout. They go to the memory of that layout, and nothing goes to the other.
-pub(crate) fn run_as(
-    layout: Layout,
+// The run with its entries laid out in parts of one kind.
+pub(crate) fn run_as<P: Part>(
     script: &[u8],
     book: &[u8],
     limit: usize,
     literals: &mut [u8],
-    numbers: &mut [u32],
-    bytes: &mut [u8],
+    entries: &mut [P],
 ) -> Ran
-    ensures { called result literals.new (memory_of layout numbers.new bytes.new) ≡ run_call (entry_width layout) (laid_by layout) script.now book.now limit literals.old (memory_of layout numbers.old bytes.old) }
+    ensures { called result literals.new (P.numbers entries.new) ≡ run_call P.WIDTH P.laid script.now book.now limit literals.old (P.numbers entries.old) }
 {
     let number = door::run::refuses(script, book);
     if number == 0 {
-        return tokens::tokens(layout, book, script, limit, literals, numbers, bytes);
+        tokens::tokens(book, script, limit, literals, entries)
+    } else {
+        refused(number)
     }
-    refused(number)
 }
 
 // The tokens of a script from START, under a book: each as five numbers, and the bytes of its literals. A limit of 0 is none.
@@ -68,14 +65,5 @@ pub fn run(
 ) -> Ran
     ensures { called result literals.new entries.new ≡ run_call 5 numbers_of script.now book.now limit literals.old entries.old }
 {
-    let mut none: [u8; 1] = [0; 1];
-    run_as(
-        Layout::Numbers,
-        script,
-        book,
-        limit,
-        literals,
-        entries,
-        &mut none,
-    )
+    run_as(script, book, limit, literals, entries)
 }

@@ -1,12 +1,11 @@
 // The tokens of a script that was let in, turn by turn.
-ghost use Rattle.std.specs.Prelude.{◌≡◌, true, ◌/◌, ◌≤◌, length};
+ghost use Rattle.std.specs.Prelude.{◌≡◌, true, ◌≤◌, length};
 ghost use Rattle.book.specs.Book.{good};
 ghost use Rattle.reading.specs.CutRun.{bounds};
 ghost use Rattle.run.specs.Run.{called, read_call};
-ghost use Rattle.run.specs.Layouts.{entry_width, laid_by, memory_of};
 
-use crate::layout::Layout;
-use crate::{Ran, layout};
+use crate::Ran;
+use crate::layout::Part;
 use chars::cursor::Cursor;
 use position::Position;
 use reading::Bounds;
@@ -20,13 +19,13 @@ const START: Cursor = Cursor {
 };
 
 // Before the first turn nothing is listed, and no literal byte is used.
-fn fresh(layout: Layout, limit: usize, literals: &[u8], numbers: &[u32], bytes: &[u8]) -> Room
-    ensures { result ≡ record { bounds = bounds limit (length literals.now) (length (memory_of layout numbers.now bytes.now) / entry_width layout); listed = 0; used = 0 } }
+fn fresh(limit: usize, literals: usize, entries: usize) -> Room
+    ensures { result ≡ record { bounds = bounds limit literals entries; listed = 0; used = 0 } }
 {
     let bounds = Bounds {
         limit,
-        literals: literals.len(),
-        entries: layout::room(layout, numbers, bytes),
+        literals,
+        entries,
     };
     Room {
         bounds,
@@ -35,24 +34,22 @@ fn fresh(layout: Layout, limit: usize, literals: &[u8], numbers: &[u32], bytes: 
     }
 }
 
-// Lists them in a layout, and the bytes of their literals.
-pub fn tokens(
-    layout: Layout,
+// Lists them, each laid out in parts of the memory for entries, and the bytes of their literals.
+pub fn tokens<P: Part>(
     book: &[u8],
     script: &[u8],
     limit: usize,
     literals: &mut [u8],
-    numbers: &mut [u32],
-    bytes: &mut [u8],
+    entries: &mut [P],
 ) -> Ran
     requires { (good book.now ≡ true) × (length script.now ≤ 16777216) }
-    ensures { called result literals.new (memory_of layout numbers.new bytes.new) ≡ read_call (entry_width layout) (laid_by layout) script.now book.now limit literals.old (memory_of layout numbers.old bytes.old) }
+    ensures { called result literals.new (P.numbers entries.new) ≡ read_call P.WIDTH P.laid script.now book.now limit literals.old (P.numbers entries.old) }
 {
-    let mut room = fresh(layout, limit, literals, numbers, bytes);
+    let mut room = fresh(limit, literals.len(), entries.len() / P::WIDTH);
     let mut s = State::begun(START);
     loop {
         let cursor = s.cursor;
-        let turned = turn::turn(book, script, cursor, s.level, s.due, room, &mut *literals);
+        let turned = turn::turn(book, script, cursor, s.level, s.due, room, literals);
         let to = turned.to;
         let next = turned.next;
         match next {
@@ -61,7 +58,7 @@ pub fn tokens(
                 s.due = false;
             }
             Next::Listed(entry) => {
-                layout::store(layout, entry, room.listed, &mut *numbers, &mut *bytes);
+                P::store(entries, entry, room.listed);
                 room.listed += 1;
                 room.used = turned.used;
                 let passed = Crossed::given(turned.piece, turned.token);

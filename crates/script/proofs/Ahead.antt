@@ -1,4 +1,5 @@
 -- A step leads further into the script, and a run stays fine; or it is over, and nothing more is listed. Assumes nothing.
+use Rattle.std.specs.Prelude.{Err, Ok}
 use Prim.Native.Nat.{ℕ, ◌+◌, ◌*◌, ◌≤◌, ◌<◌}
 use native.Mathlib.Omega.{arith}
 use mathlib.Core.Bool.{Bool, true, false}
@@ -30,8 +31,7 @@ use Rattle.script.specs.declared.State.{State}
 use Rattle.script.specs.declared.Crossed.TheVariants.{Plain, Piece, Token}
 use Rattle.script.specs.States.{moved_to, interpolating, count, with_braces, resumed, opened, closed, behind, behind_of, Fine}
 use Rattle.script.specs.Steps.{Step, on, last, Note, nothing, token, literal, literal_trace, verdict_of, listed_of, on_verdict, on_end, literal_step, end_step, on_found, step_of}
-use Rattle.script.specs.declared.Verdict.{Verdict}
-use Rattle.script.specs.declared.Verdict.TheVariants as verdict
+use Rattle.script.specs.Verdicts.{Verdict, all_fine}
 use Rattle.script.proofs.Moves.{fine_behind}
 
 -- a reading that lists nothing
@@ -65,8 +65,8 @@ trace_lands rules t o from l =
 module _ (o : Opener) (level : ℕ) (from : Cursor) (e : End) (body : List ℕ) where
   -- what is known of a literal of which there is nothing to be said
   abbrev Listed : Verdict → Type 0
-  Listed verdict.Fine = (e.on_record.times ≡ 0) × (e.interpolated ≡ true → level < 16)
-  Listed (verdict.Wrong f) = Unit {0}
+  Listed (Ok u) = (e.on_record.times ≡ 0) × (e.interpolated ≡ true → level < 16)
+  Listed (Err f) = Unit {0}
 
   is_listed : Listed (verdict_of o level from e body)
   unfolding verdict_of
@@ -86,7 +86,7 @@ module _ (o : Opener) (level : ℕ) (from : Cursor) (e : End) (body : List ℕ) 
       no_piece : e.interpolated ≡ false → e.interpolated ≡ true → level < 16
       no_piece n y = not_both y n
 
-  module _ (fine : verdict_of o level from e body ≡ verdict.Fine) where
+  module _ (fine : verdict_of o level from e body ≡ all_fine) where
     pub listed_closed : e.on_record.times ≡ 0
     listed_closed = (rw fine at is_listed).0
 
@@ -132,9 +132,9 @@ module _ (rules : Rules) (t book : List ℕ) (s : State) (fine : Fine s) (small 
     ended_ahead x (good e) (a, b, c) = by (verdict_of o s.level from e (bytes x)) refl
       where
         by : (v : Verdict) → verdict_of o s.level from e (bytes x) ≡ v → Ahead t s (on_verdict o from x e s v)
-        by verdict.Fine q =
+        by (Ok u) q =
             listed_ahead o from x e (omega (arith, c (listed_closed o s.level from e (bytes x) q))) (b l) (listed_fits o s.level from e (bytes x) q) (omega (arith, a))
-        by (verdict.Wrong f) q = tt
+        by (Err f) q = tt
 
     literal_ahead : Ahead t s (literal_step rules t o from s)
     unfolding literal_step

@@ -1,4 +1,5 @@
 -- In a script's reading only a test of the limit is 7, at its literal's start, and no rule of its own is 7, 9 or 10. Assumes nothing.
+use Rattle.std.specs.Prelude.{Err, Ok}
 use Prim.Native.Nat.{ℕ, zero, suc, ◌-◌, ◌≤◌}
 use native.Mathlib.Omega.{arith}
 use mathlib.Core.List.{List, [], ◌∷◌}
@@ -30,8 +31,7 @@ use Rattle.reading.specs.Limits.{Fair}
 use Rattle.script.specs.Rules.{Rules}
 use Rattle.script.specs.declared.State.{State}
 use Rattle.script.specs.Steps.{Step, on, last, Note, nothing, token, literal, noted, literal_trace, verdict_of, listed_of, on_verdict, on_end, literal_step, end_step, on_found, step_of}
-use Rattle.script.specs.declared.Verdict.{Verdict}
-use Rattle.script.specs.declared.Verdict.TheVariants as verdict
+use Rattle.script.specs.Verdicts.{Verdict}
 use Rattle.script.specs.Script.{on_step, reading_from, script_from}
 
 -- what a step puts in front of a reading, or the reading that it ends with
@@ -59,8 +59,8 @@ eleven n h f q = (λ z. omega arith, λ z. omega arith, λ z. omega arith)
 -- what is wrong with a literal that its scan accepts is 11, 12 or 13
 module _ (o : Opener) (level : ℕ) (from : Cursor) (e : End) (body : List ℕ) where
   abbrev Late : Verdict → Type 0
-  Late verdict.Fine = Unit {0}
-  Late (verdict.Wrong f) = Own f
+  Late (Ok u) = Unit {0}
+  Late (Err f) = Own f
 
   verdict_late : Late (verdict_of o level from e body)
   unfolding verdict_of
@@ -84,8 +84,8 @@ module _ (rules : Rules) (t book : List ℕ) where
   ended_fair o from x s sv (good e) h = by (verdict_of o s.level from e (bytes x)) (verdict_late o s.level from e (bytes x))
     where
       by : (v : Verdict) → Late o s.level from e (bytes x) v → FairStep (on_verdict o from x e s v)
-      by verdict.Fine l = pick_cases FairStep e.interpolated _ _ (λ i. sv) (λ i. sv)
-      by (verdict.Wrong f) l = (sv, l)
+      by (Ok u) l = pick_cases FairStep e.interpolated _ _ (λ i. sv) (λ i. sv)
+      by (Err f) l = (sv, l)
 
   literal_fair : (o : Opener) (from : Cursor) (s : State) → FairStep (literal_step rules t o from s)
   unfolding literal_step

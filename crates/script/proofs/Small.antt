@@ -1,4 +1,5 @@
 -- What a script's reading tells is small. Assumes nothing.
+use Rattle.std.specs.Prelude.{Err, Ok}
 use Prim.Native.Nat.{ℕ, zero, suc, ◌-◌, ◌≤◌}
 use native.Mathlib.Omega.{arith}
 use mathlib.Core.List.{List, [], ◌∷◌}
@@ -30,8 +31,7 @@ use Rattle.script.specs.Rules.{Rules}
 use Rattle.script.specs.declared.State.{State}
 use Rattle.script.specs.States.{moved_to, interpolating}
 use Rattle.script.specs.Steps.{Step, on, last, Note, nothing, token, literal, noted, literal_trace, verdict_of, listed_of, on_verdict, on_end, literal_step, end_step, on_found, step_of}
-use Rattle.script.specs.declared.Verdict.{Verdict}
-use Rattle.script.specs.declared.Verdict.TheVariants as verdict
+use Rattle.script.specs.Verdicts.{Verdict}
 use Rattle.script.specs.Script.{on_step, reading_from, script_from}
 use Rattle.script.proofs.Ahead.{behind_cursor, trace_lands}
 
@@ -47,8 +47,8 @@ module _ (rules : Rules) (t book : List ℕ) where
 
   -- what is to be said of a literal that its scan accepts
   abbrev VerdictSmall : Verdict → Type 0
-  VerdictSmall verdict.Fine = Unit {0}
-  VerdictSmall (verdict.Wrong f) = Tells (length t) f
+  VerdictSmall (Ok u) = Unit {0}
+  VerdictSmall (Err f) = Tells (length t) f
 
   verdict_small : (o : Opener) (level : ℕ) (from : Cursor) (e : End) (body : List ℕ) → Small from.place → Small e.cursor.place → VerdictSmall (verdict_of o level from e body)
   unfolding verdict_of
@@ -73,11 +73,11 @@ module _ (rules : Rules) (t book : List ℕ) where
     ended_small x i (good e) land j = by (verdict_of o s.level from e (bytes x)) (verdict_small o s.level from e (bytes x) h j)
       where
         by : (v : Verdict) → VerdictSmall v → StepSmall (on_verdict o from x e s v)
-        by verdict.Fine k =
+        by (Ok u) k =
             pick_cases StepSmall e.interpolated _ _
             (λ z. ((record { kind = omega arith; place = h; starts = within; ends = land.1 inside }, i), j, land.1 inside))
             (λ z. ((record { kind = l; place = h; starts = within; ends = land.1 inside }, i), j, land.1 inside))
-        by (verdict.Wrong f) k = (h, i, k)
+        by (Err f) k = (h, i, k)
 
     literal_small : StepSmall (literal_step rules t o from s)
     unfolding literal_step

@@ -1,6 +1,7 @@
+pub mod Counts
 pub mod Rules
+pub mod Script
+pub mod Skips
 pub mod States
 pub mod Steps
-pub mod Script
-pub mod Counts
-pub mod Skips
+pub mod Verdicts

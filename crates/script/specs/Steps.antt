@@ -1,5 +1,5 @@
 -- One step of a run by the unlimited rules: document 01, "Run".
-use Rattle.std.specs.Prelude.{ℕ, List, [], eqb, leb, length}
+use Rattle.std.specs.Prelude.{ℕ, List, [], eqb, leb, length, Err, Ok}
 use Rattle.basis.specs.Types.{Bytes, Text}
 use Rattle.basis.specs.Pick.{pick, isnt}
 use Rattle.position.specs.Place.{advanced}
@@ -22,8 +22,7 @@ use Rattle.reading.specs.Reading.{Token, Reading, finishes, halts, spoils, lists
 use Rattle.script.specs.Rules.{Rules}
 use Rattle.script.specs.States.{moved_to, interpolating, behind}
 use Rattle.script.specs.declared.State.{State}
-use Rattle.script.specs.declared.Verdict.{Verdict}
-use Rattle.script.specs.declared.Verdict.TheVariants.{Fine, Wrong}
+use Rattle.script.specs.Verdicts.{Verdict, all_fine}
 
 -- what a step puts in front of the reading of the rest: nothing; a token that is a part of the script; or a literal
 pub data Note : Type 0 where
@@ -54,9 +53,9 @@ literal_trace rules t o from = pick (eqb o.terminator hash) (read_of rules.newli
 -- what is to be said of a literal that its scan accepts: 11 at the cursor where it is still open; 13 at its start where `${` ends it and sixteen interpolations are open; 12 at its start where a `'` literal is not one character
 unfoldable pub verdict_of : Opener → ℕ → Cursor → End → Bytes → Verdict
 verdict_of o level from e body =
-    pick (isnt (eqb e.on_record.times 0)) (Wrong (still_open e.cursor.place))
-    (pick e.interpolated (pick (leb 16 level) (Wrong (too_deep from.place)) Fine)
-    (pick (eqb o.terminator apostrophe) (pick (eqb (length (chars body)) 1) Fine (Wrong (not_one_character from.place))) Fine))
+    pick (isnt (eqb e.on_record.times 0)) (Err (still_open e.cursor.place))
+    (pick e.interpolated (pick (leb 16 level) (Err (too_deep from.place)) all_fine)
+    (pick (eqb o.terminator apostrophe) (pick (eqb (length (chars body)) 1) all_fine (Err (not_one_character from.place))) all_fine))
 
 -- where a literal starts: at its opener, which stands where the run does; a text that goes on, behind its `}`
 abbrev pub start_of : Cursor → State → Cursor
@@ -69,8 +68,8 @@ listed_of o from t e s =
     (on (literal (Reading.token o.kind (start_of from s) e.cursor) t) (moved_to e.cursor s))
 
 abbrev pub on_verdict : Opener → Cursor → Trace → End → State → Verdict → Step
-on_verdict o from t e s Fine = listed_of o from t e s
-on_verdict o from t e s (Wrong f) = last (spoils (start_of from s) t f)
+on_verdict o from t e s (Ok u) = listed_of o from t e s
+on_verdict o from t e s (Err f) = last (spoils (start_of from s) t f)
 
 -- what comes of a literal's reading
 abbrev pub on_end : Opener → Cursor → Trace → State → Outcome → Step

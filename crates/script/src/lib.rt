@@ -22,11 +22,7 @@ pub struct State {
 }
 
 // What is to be said of a literal that its scan accepts: nothing, or that it is wrong in a run.
-#[derive(Clone, Copy)]
-pub enum Verdict {
-    Fine,
-    Wrong(Fault),
-}
+pub type Verdict = Result<(), Fault>;
 
 // What a run has passed: something that opens and closes nothing, a piece of text that `${` ended, or the Rust's token.
 #[derive(Clone, Copy)]

@@ -1,12 +1,14 @@
 // Spans between two places: the type Span of types/position.rs.
-#![tactic(auto)]
+#![tactic(auto, unfolding(crate::specs::Spans::new_span, crate::specs::Spans::is_no_span, crate::specs::Spans::span_start, crate::specs::Spans::span_end, position::specs::Place::is_none))]
 
 ghost use Rattle.std.specs.Prelude.{◌≡◌};
 ghost use Rattle.span.specs.Spans.{new_span, is_no_span, span_start, span_end};
 
 use position::Position;
 
-#[derive(Clone, Copy)]
+mod words;
+
+#[derive(Eq, PartialEq, Ord, PartialOrd, Hash, Clone, Copy)]
 pub struct Span {
     start: Position,
     end: Position,
@@ -27,10 +29,7 @@ impl Span {
     pub fn is_none(self) -> bool
         ensures { result ≡ is_no_span self }
     {
-        if self.start.is_none() {
-            return self.end.is_none();
-        }
-        false
+        self == Self::NONE
     }
 
     pub fn start(self) -> Position

@@ -7,7 +7,7 @@ use Rattle.position.specs.Place.{line_number, column_number}
 use Rattle.numbers.specs.Spell.{spelled}
 use Rattle.reading.specs.Reading.{Left, entries, literal_bytes}
 use Rattle.reading.specs.Told.{ending_number, ending_place, ending_part}
-use Rattle.reading.specs.declared.Ending.{Ending}
+use Rattle.reading.specs.Endings.{Ending}
 use Rattle.door.specs.RunDoor.{refuses_of}
 use Rattle.script.specs.Rules.{document01}
 use Rattle.run.specs.Run.{bounds_of, run_of, literals_of, entries_of}

@@ -1,19 +1,18 @@
 -- The raw writer through C: what `stew_raw_write` returns, and what the two slices lent to it hold then.
-use Rattle.std.specs.Prelude.{ℕ, Bool, List, eqb, ltb, length}
+use Rattle.std.specs.Prelude.{ℕ, Bool, List, eqb, ltb, length, Err, Ok}
 use Rattle.basis.specs.Types.{Bytes}
 use Rattle.basis.specs.Pick.{pick}
 use Rattle.basis.specs.Store.{over}
 use Rattle.lent.specs.Written.{written_number}
-use Rattle.lent.specs.declared.Written.{Written}
-use Rattle.lent.specs.declared.Written.TheVariants.{Done, Refused}
+use Rattle.lent.specs.Answer.{Written}
 use Rattle.numbers.specs.Spell.{spell}
 use Rattle.raw_writer.specs.Writer.{raw_write_of, raw_left_of}
 use Rattle.door.specs.Door.{text_of}
 
 -- the literal's length; 0 where the write was refused
 abbrev pub written_length : Written → ℕ
-written_length (Done n) = n
-written_length (Refused n) = 0
+written_length (Ok n) = n
+written_length (Err n) = 0
 
 -- an answer of less than four bytes
 unfoldable pub write_too_short : List ℕ → Bool

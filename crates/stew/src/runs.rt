@@ -14,7 +14,7 @@ fn row_of(ran: Ran) -> [u64; 7]
     let used = ran.used as u64;
     let ending = ran.ending;
     match ending {
-        Ending::End(place) => {
+        Ok(place) => {
             return [
                 0,
                 place.line_number() as u64,
@@ -25,7 +25,7 @@ fn row_of(ran: Ran) -> [u64; 7]
                 0,
             ];
         }
-        Ending::Stop(fault) => {
+        Err(fault) => {
             let place = fault.place;
             return [
                 fault.number as u64,
@@ -68,6 +68,6 @@ pub fn stew_run(
     }
     let ran = run::bytes::run(script, book, limit, literals, entries);
     let row = row_of(ran);
-    numbers::write_row(&row, 4, &mut *answer);
+    let _ = numbers::write_row(&row, 4, &mut *answer);
     row[0] as u32
 }

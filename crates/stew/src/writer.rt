@@ -27,11 +27,11 @@ pub fn stew_raw_write(body: &[u8], out: &mut [u8], answer: &mut [u8]) -> u32
     }
     let w = raw_writer::raw_write(body, &mut *out);
     match w {
-        Written::Done(len) => {
+        Ok(len) => {
             numbers::put(len as u64, 4, &mut *answer, 0);
             return 0;
         }
-        Written::Refused(number) => {
+        Err(number) => {
             numbers::put(0, 4, &mut *answer, 0);
             return number as u32;
         }

@@ -1,4 +1,6 @@
 -- The body of a string literal is UTF-8: each turn adds the encoding of a scalar value, or nothing. Assumes nothing.
+use Rattle.std.specs.declared.ops.ControlFlow.TheVariants.{Break, Continue}
+use Rattle.std.specs.Prelude.{Err, Ok}
 use Prim.Native.Nat.{ℕ, suc, ◌+◌, ◌-◌}
 use mathlib.Core.Bool.{Bool, true, false}
 use mathlib.Core.List.{List, [], ◌∷◌, ◌++◌}
@@ -18,13 +20,10 @@ use Rattle.literal.specs.Trace.{Trace, checks, Yield, added, tested, yields, byt
 use Rattle.literal.specs.Answers.{once, too_long}
 use Rattle.string_turn.specs.Take.{input_end, take_of}
 use Rattle.string_turn.specs.declared.take.Scanning.{Scanning}
-use Rattle.string_turn.specs.declared.take.Last.{Last}
-use Rattle.string_turn.specs.declared.take.Last.TheVariants.{Good, Bad}
-use Rattle.string_turn.specs.declared.take.Got.{Got}
-use Rattle.string_turn.specs.declared.take.Got.TheVariants as got
+use Rattle.string_turn.specs.Answer.{Last}
+use Rattle.string_turn.specs.Answer.{Got}
 use Rattle.string_turn.specs.Act.{act_of}
-use Rattle.string_turn.specs.declared.act.Acted.{Acted}
-use Rattle.string_turn.specs.declared.act.Acted.TheVariants as step
+use Rattle.string_turn.specs.Answer.{Acted}
 use Rattle.string.specs.Ends.{last_of}
 use Rattle.string.specs.Reading.{on_got, on_acted, string_turn, string_rule, string_begun, string_reading}
 
@@ -38,8 +37,8 @@ encoded_well d bs = by (is_scalar d) refl
 
 last_well : (start : Position) (last : Last) → well (bytes (last_of start last)) ≡ true
 unfolding last_of bytes well well_from
-last_well start (Good e) = refl
-last_well start (Bad f) = refl
+last_well start (Ok e) = refl
+last_well start (Err f) = refl
 
 module _ (white : ℕ → Bool) (t : List ℕ) (q : ℕ) (start : Position) where
   abbrev Turned : Turn Scanning (List Yield) Trace → Type 0
@@ -53,8 +52,8 @@ module _ (white : ℕ → Bool) (t : List ℕ) (q : ℕ) (start : Position) wher
       acted : (here : Cursor) (x : Acted)
           → Turned (on_acted x (λ d next r. go (tested (too_long start here (once q)) ∷ added (encoded d) ∷ []) (length cs - suc (length (chars_at t next))) r)
           (λ last. stop (checks (too_long start here (once q)) (last_of start last))))
-      acted here (step.Go d next r) = λ y h. encoded_well d (bytes y) ∙ h
-      acted here (step.Over last) = last_well start last
+      acted here (Continue (d, next, r)) = λ y h. encoded_well d (bytes y) ∙ h
+      acted here (Break last) = last_well start last
 
       taken : (x : Got)
           → Turned (on_got x
@@ -62,8 +61,8 @@ module _ (white : ℕ → Bool) (t : List ℕ) (q : ℕ) (start : Position) wher
           (λ d next r. go (tested (too_long start here (once q)) ∷ added (encoded d) ∷ []) (length cs - suc (length (chars_at t next))) r)
           (λ last. stop (checks (too_long start here (once q)) (last_of start last))))
           (λ last. stop (last_of start last)))
-      taken (got.Char c here) = acted here (act_of white t q start c here s)
-      taken (got.Over last) = last_well start last
+      taken (Continue (c, here)) = acted here (act_of white t q start c here s)
+      taken (Break last) = last_well start last
 
   pub body_well : (from : Cursor) → from.place ≡ start → well (bytes (string_reading white t q from)) ≡ true
   unfolding string_reading string_rule

@@ -1,4 +1,5 @@
 -- The entry, for each way through the code: the arguments refused, the scan refused, the scan accepted and its body written. Assumes nothing.
+use Rattle.std.specs.Prelude.{Err}
 use Prim.Native.Nat.{ℕ, ◌≤◌}
 use native.Mathlib.Omega.{arith}
 use mathlib.Core.List.{List}
@@ -12,8 +13,7 @@ use Rattle.chars.specs.Cursors.{cursor}
 use Rattle.literal.specs.Trace.{bytes}
 use Rattle.literal.specs.Cut.{cut, wrote}
 use Rattle.literal.specs.declared.End.{End}
-use Rattle.literal.specs.declared.Scanned.{Scanned}
-use Rattle.literal.specs.declared.Scanned.TheVariants.{Accepted, Refused}
+use Rattle.literal.specs.Scans.{Scanned, accepted_as}
 use Rattle.literal.proofs.Turns.{cut_fails}
 use Rattle.literal.proofs.Limits.{accepted_whole}
 use Rattle.literal.specs.Answers.{as_given, full}
@@ -22,7 +22,7 @@ use Rattle.string.specs.Entry.{argument_number, string_trace, scan_of}
 
 module _ (t : List ℕ) (at : ℕ) (p : Position) (q limit room : ℕ) {n : ℕ} (e : n ≡ argument_number t at p q) where
   -- the arguments
-  pub argument_refused : (n ≡ 0 → ⊥) → {r : Scanned} → r ≡ Refused (as_given n (cursor at p)) → r ≡ scan_of t at p q limit room
+  pub argument_refused : (n ≡ 0 → ⊥) → {r : Scanned} → r ≡ Err (as_given n (cursor at p)) → r ≡ scan_of t at p q limit room
   unfolding scan_of string_trace
   argument_refused z k = rw (← e, ne_eqb n 0 z, k) (sym (cut_fails (full (cursor at p)) limit room 0 (as_given n (cursor at p))))
 
@@ -36,7 +36,7 @@ module _ (t : List ℕ) (at : ℕ) (p : Position) (q limit room : ℕ) {n : ℕ}
       unfolding scan_of
       scans = rw admits m
 
-      module _ {d : End} {k : ℕ} (y : r ≡ Accepted d k) where
+      module _ {d : End} {k : ℕ} (y : r ≡ accepted_as d k) where
         -- there is room for the body, and it is written
         pub has_room : length (bytes (string_reading is_white t q (cursor at p))) ≤ room
         has_room = let h = accepted_whole (full (cursor at p)) limit room (string_reading is_white t q (cursor at p)) d k (sym m ∙ y) in omega arith

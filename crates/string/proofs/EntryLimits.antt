@@ -1,4 +1,6 @@
 -- Demand 3 for a string literal: its limits are 7 and its own refusals are not, so what holds of any such reading holds of it. Assumes nothing.
+use Rattle.literal.specs.Scans.{accepted_as}
+use Rattle.std.specs.Prelude.{Err}
 use Prim.Native.Nat.{ℕ, ◌≤◌}
 use native.Mathlib.Omega.{arith}
 use mathlib.Core.Bool.{false}
@@ -19,7 +21,6 @@ use Rattle.literal.specs.Told.{refusal_number}
 use Rattle.literal.specs.Limits.{FairTrace, Looser, string_limit, literal_room, Cuts}
 use Rattle.literal.specs.declared.End.{End}
 use Rattle.literal.specs.declared.Refusal.{Refusal}
-use Rattle.literal.specs.declared.Scanned.TheVariants.{Accepted, Refused}
 use Rattle.literal.proofs.Limits.{accepted_whole, uncut_within, recurs_whole, cut_at_the_first}
 use Rattle.classes.specs.Marks.{quote, apostrophe, backtick}
 use Rattle.literal.specs.Answers.{full}
@@ -53,7 +54,7 @@ trace_fair_trace t at p q =
 -- demand 3 of the scan
 module _ (t : List ℕ) (at : ℕ) (p : Position) (q : ℕ) where
   -- an accepted literal's length is its body's, and within the room; and it ends as the unlimited rules say
-  pub scan_accepted : (limit room : ℕ) (e : End) (n : ℕ) → scan_of t at p q limit room ≡ Accepted e n
+  pub scan_accepted : (limit room : ℕ) (e : End) (n : ℕ) → scan_of t at p q limit room ≡ accepted_as e n
       → (n ≡ length (bytes (string_trace t at p q))) × (n ≤ room) × (final (string_trace t at p q) ≡ good e)
   unfolding scan_of
   scan_accepted limit room e n h = accepted_whole (full (cursor at p)) limit room (string_trace t at p q) e n h
@@ -71,7 +72,7 @@ module _ (t : List ℕ) (at : ℕ) (p : Position) (q : ℕ) where
   scan_recurs l m r s o h x y = recurs_whole (full (cursor at p)) l m r s p (string_trace t at p q) refl (trace_fair_trace t at p q) o h x y
 
   -- 7 comes at the first test that finds more than the limit, 9 at the first step that passes the room, and only there
-  pub scan_cut : (limit room : ℕ) (f : Refusal) → scan_of t at p q limit room ≡ Refused f
+  pub scan_cut : (limit room : ℕ) (f : Refusal) → scan_of t at p q limit room ≡ Err f
       → (f.fault.number ≡ 7 → Cuts (full (cursor at p)) limit room 0 (string_trace t at p q) string_limit f)
       × (f.fault.number ≡ 9 → Cuts (full (cursor at p)) limit room 0 (string_trace t at p q) literal_room f)
   unfolding scan_of

@@ -1,4 +1,6 @@
 -- Where a string literal ends. Assumes nothing.
+use Rattle.std.specs.declared.ops.ControlFlow.TheVariants.{Break, Continue}
+use Rattle.std.specs.Prelude.{Err, Ok}
 use Prim.Native.Nat.{ℕ, suc, ◌+◌, ◌-◌, ◌≤◌}
 use native.Mathlib.Omega.{arith}
 use mathlib.Core.Bool.{Bool, true, false}
@@ -17,14 +19,11 @@ use Rattle.literal.proofs.Lands.{LandsFrom, size, lands_behind}
 use Rattle.literal.specs.Answers.{once, too_long}
 use Rattle.string_turn.specs.Take.{input_end, take_of}
 use Rattle.string_turn.specs.declared.take.Scanning.{Scanning}
-use Rattle.string_turn.specs.declared.take.Last.{Last}
-use Rattle.string_turn.specs.declared.take.Last.TheVariants.{Good, Bad}
-use Rattle.string_turn.specs.declared.take.Got.{Got}
-use Rattle.string_turn.specs.declared.take.Got.TheVariants as got
+use Rattle.string_turn.specs.Answer.{Last}
+use Rattle.string_turn.specs.Answer.{Got}
 use Rattle.string_turn.proofs.take.Lands.{LastLands, GotLands, end_lands, take_lands}
 use Rattle.string_turn.specs.Act.{act_of}
-use Rattle.string_turn.specs.declared.act.Acted.{Acted}
-use Rattle.string_turn.specs.declared.act.Acted.TheVariants as step
+use Rattle.string_turn.specs.Answer.{Acted}
 use Rattle.string_turn.proofs.act.Lands.{StepLands, act_lands}
 use Rattle.string.specs.Ends.{last_of}
 use Rattle.string.specs.Reading.{on_got, on_acted, string_turn, string_rule, string_begun, string_reading}
@@ -40,8 +39,8 @@ few d = by (is_scalar d) refl
 module _ (t : List ℕ) where
   last_final : (at : ℕ) (start : Position) (last : Last) → LastLands t at last → LandsFrom t at 0 (last_of start last)
   unfolding last_of bytes final
-  last_final at start (Good e) h = h
-  last_final at start (Bad f) h = tt
+  last_final at start (Ok e) h = h
+  last_final at start (Err f) h = tt
 
   module _ (white : ℕ → Bool) (q : ℕ) (start : Position) where
     abbrev Turned : ℕ → Turn Scanning (List Yield) Trace → Type 0
@@ -55,8 +54,8 @@ module _ (t : List ℕ) where
         acted : (here : Cursor) (x : Acted) → StepLands t at x
             → Turned at (on_acted x (λ d next r. go (tested (too_long start here (once q)) ∷ added (encoded d) ∷ []) (length cs - suc (length (chars_at t next))) r)
             (λ last. stop (checks (too_long start here (once q)) (last_of start last))))
-        acted here (step.Go d next r) p = omega (arith, few d)
-        acted here (step.Over last) p = last_final at start last p
+        acted here (Continue (d, next, r)) p = omega (arith, few d)
+        acted here (Break last) p = last_final at start last p
 
         taken : (x : Got) → GotLands t at x
             → Turned at (on_got x
@@ -64,8 +63,8 @@ module _ (t : List ℕ) where
             (λ d next r. go (tested (too_long start here (once q)) ∷ added (encoded d) ∷ []) (length cs - suc (length (chars_at t next))) r)
             (λ last. stop (checks (too_long start here (once q)) (last_of start last))))
             (λ last. stop (last_of start last)))
-        taken (got.Char c here) (f, l) = acted here (act_of white t q start c here s) (act_lands white t q start at c here s f l)
-        taken (got.Over last) p = last_final at start last p
+        taken (Continue (c, here)) (f, l) = acted here (act_of white t q start c here s) (act_lands white t q start at c here s f l)
+        taken (Break last) p = last_final at start last p
 
     pub string_lands : (from : Cursor) → from.place ≡ start → LandsFrom t from.at 0 (string_reading white t q from)
     unfolding string_reading string_rule

@@ -1,4 +1,6 @@
 -- A reading, for each way through a turn, and that its limits are 7. Assumes nothing.
+use Rattle.std.specs.declared.ops.ControlFlow.TheVariants.{Break}
+use Rattle.std.specs.Prelude.{None, Some}
 use Prim.Native.Nat.{ℕ, suc, ◌+◌, ◌-◌, ◌≤◌, ◌<◌}
 use native.Mathlib.Omega.{arith}
 use mathlib.Core.Bool.{Bool}
@@ -8,8 +10,7 @@ use lib.ListN.{length}
 use Rattle.position.specs.declared.Position.{Position}
 use Rattle.utf8.specs.Table.{chars_at, look_at}
 use Rattle.utf8.specs.Encode.{encoded}
-use Rattle.utf8.specs.declared.Look.{Look}
-use Rattle.utf8.specs.declared.Look.TheVariants.{Char, End}
+use Rattle.utf8.specs.Looks.{Look}
 use Rattle.chars.specs.Cursors.{cursor}
 use Rattle.chars.specs.Scan.{go, run_at, move_at, on}
 use Rattle.chars.specs.declared.cursor.Cursor.{Cursor}
@@ -23,18 +24,17 @@ use Rattle.chars.proofs.Reaches.{Reached, Further, behind, further_on, Counted, 
 use Rattle.string_turn.specs.Take.{input_end, take_of}
 use Rattle.string_turn.specs.Act.{act_of}
 use Rattle.string_turn.specs.declared.take.Scanning.{Scanning}
-use Rattle.string_turn.specs.declared.take.Last.{Last}
-use Rattle.string_turn.specs.declared.take.Got.TheVariants as got
-use Rattle.string_turn.specs.declared.act.Acted.TheVariants as step
+use Rattle.string_turn.specs.Answer.{Last, got_char, goes_with}
+use Rattle.std.specs.declared.ops.ControlFlow.{ControlFlow}
 use Rattle.string_turn.proofs.take.Reaching.{take_gets}
 use Rattle.string_turn.proofs.act.Reaching.{act_steps}
 use Rattle.string.specs.Ends.{last_of}
 use Rattle.string.specs.Reading.{string_turn, string_rule}
 
-over_is : {x y : Last} → got.Over x ≡ got.Over y → x ≡ y
+over_is : {C : Type 0} {x y : Last} → ◌≡◌ {A = ControlFlow Last C} (Break x) (Break y) → x ≡ y
 over_is e = cc
 
-no_over {ℓ} : {A : Type ℓ} {x : Last} {c : ℕ} {here : Cursor} → got.Over x ≡ got.Char c here → A
+no_over {ℓ} : {A : Type ℓ} {x : Last} {c : ℕ} {here : Cursor} → Break x ≡ got_char c here → A
 no_over e = absurd (let z : ◌≡◌ {A = ℕ} 0 1 = cc in omega arith)
 
 module _ (white : ℕ → Bool) (t : List ℕ) (q : ℕ) (start : Position) (at : ℕ) (s : Scanning) where
@@ -43,33 +43,33 @@ module _ (white : ℕ → Bool) (t : List ℕ) (q : ℕ) (start : Position) (at 
   reading n r = run_at (string_rule white t q start) t n r
 
   -- the text ends: nothing is taken
-  none_taken : look_at t at ≡ End → take_of t q start at s ≡ got.Over (input_end q start at s)
+  none_taken : look_at t at ≡ None → take_of t q start at s ≡ Break (input_end q start at s)
   unfolding take_of
   none_taken e = rw (ate_none t (cursor at s.place) e)
 
   -- the scan is over before the limit is tested
-  pub over_at_once : {last : Last} → take_of t q start at s ≡ got.Over last → reading at s ≡ last_of start last
+  pub over_at_once : {last : Last} → take_of t q start at s ≡ Break last → reading at s ≡ last_of start last
   unfolding string_rule string_turn
   over_at_once {last} g = by (look_at t at) refl
     where
       by : (x : Look) → look_at t at ≡ x → reading at s ≡ last_of start last
-      by (Char c w) e = move_over (string_rule white t q start) t at s (is_over (string_rule white t q start) t at s e (rw g))
-      by End e = move_over (string_rule white t q start) t at s (at_end_lem (string_rule white t q start) t at s e) ∙ ap (last_of start) (over_is (sym (none_taken e) ∙ g))
+      by (Some (c, w)) e = move_over (string_rule white t q start) t at s (is_over (string_rule white t q start) t at s e (rw g))
+      by None e = move_over (string_rule white t q start) t at s (at_end_lem (string_rule white t q start) t at s e) ∙ ap (last_of start) (over_is (sym (none_taken e) ∙ g))
 
-  module _ {c : ℕ} {here : Cursor} (g : take_of t q start at s ≡ got.Char c here) where
+  module _ {c : ℕ} {here : Cursor} (g : take_of t q start at s ≡ got_char c here) where
     further : Further t at here.at
     further = rw g at (take_gets t q start at s)
 
     -- behind the limit it is over
-    pub over_then : {last : Last} → act_of white t q start c here s ≡ step.Over last → reading at s ≡ checks (too_long start here (once q)) (last_of start last)
+    pub over_then : {last : Last} → act_of white t q start c here s ≡ Break last → reading at s ≡ checks (too_long start here (once q)) (last_of start last)
     unfolding string_rule string_turn
     over_then {last} f = by (look_at t at) refl
       where
         by : (x : Look) → look_at t at ≡ x → reading at s ≡ checks (too_long start here (once q)) (last_of start last)
-        by (Char c w) e = move_over (string_rule white t q start) t at s (is_over (string_rule white t q start) t at s e (rw (g, f)))
-        by End e = no_over (sym (none_taken e) ∙ g)
+        by (Some (c, w)) e = move_over (string_rule white t q start) t at s (is_over (string_rule white t q start) t at s e (rw (g, f)))
+        by None e = no_over (sym (none_taken e) ∙ g)
 
-    module _ {d next : ℕ} {r : Scanning} (f : act_of white t q start c here s ≡ step.Go d next r) where
+    module _ {d next : ℕ} {r : Scanning} (f : act_of white t q start c here s ≡ goes_with d next r) where
       reached : Reached t here.at next
       reached = rw f at (act_steps t white q start c here s)
 
@@ -109,8 +109,8 @@ module _ (white : ℕ → Bool) (t : List ℕ) (q : ℕ) (start : Position) (at 
     pub low : at < next
     pub high : next ≤ length t
 
-  module _ {c : ℕ} {here : Cursor} (g : take_of t q start at s ≡ got.Char c here) where
-    pub once_on : {d next : ℕ} {r : Scanning} → act_of white t q start c here s ≡ step.Go d next r → Once d next r
+  module _ {c : ℕ} {here : Cursor} (g : take_of t q start at s ≡ got_char c here) where
+    pub once_on : {d next : ℕ} {r : Scanning} → act_of white t q start c here s ≡ goes_with d next r → Once d next r
     once_on f =
         record {
           seven = too_long start here (once q);
@@ -119,8 +119,8 @@ module _ (white : ℕ → Bool) (t : List ℕ) (q : ℕ) (start : Position) (at 
           high = goes_high white t q start at s g f;
         }
 
-    module _ {mid : ℕ} {m : Scanning} (f : act_of white t q start c here s ≡ step.Go no_char mid m) where
-      pub twice_on : {c' : ℕ} {here' : Cursor} → take_of t q start mid m ≡ got.Char c' here' → {d next : ℕ} {r : Scanning} → act_of white t q start c' here' m ≡ step.Go d next r → Twice d next r
+    module _ {mid : ℕ} {m : Scanning} (f : act_of white t q start c here s ≡ goes_with no_char mid m) where
+      pub twice_on : {c' : ℕ} {here' : Cursor} → take_of t q start mid m ≡ got_char c' here' → {d next : ℕ} {r : Scanning} → act_of white t q start c' here' m ≡ goes_with d next r → Twice d next r
       twice_on {c'} {here'} g' f' =
           record {
             seven = too_long start here (once q);

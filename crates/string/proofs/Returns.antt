@@ -1,4 +1,5 @@
 -- The rows of the table of returns in specs/Entry.antt, document 01's examples and the decisions, computed from the definitions. Assumes nothing.
+use Rattle.std.specs.Prelude.{Err}
 use Prim.Native.Nat.{ℕ}
 use mathlib.Core.Bool.{Bool, true, false}
 use mathlib.Core.List.{List, [], ◌∷◌, ◌++◌}
@@ -12,8 +13,7 @@ use Rattle.fault.specs.Faults.{part, fault, fault_in}
 use Rattle.chars.specs.Cursors.{cursor}
 use Rattle.literal.specs.Trace.{bytes}
 use Rattle.literal.specs.declared.Terminator.{Terminator}
-use Rattle.literal.specs.declared.Scanned.{Scanned}
-use Rattle.literal.specs.declared.Scanned.TheVariants.{Accepted, Refused}
+use Rattle.literal.specs.Scans.{Scanned, accepted_as}
 use Rattle.classes.specs.Marks.{lf, cr, quote, apostrophe, backtick, dollar}
 use Rattle.literal.specs.Answers.{nothing, once, ending, refusal}
 use Rattle.literal.proofs.Computes.{the_places, the_characters, the_readings}
@@ -32,15 +32,15 @@ reads q p limit text = (scan q p limit text, bytes (string_trace text 0 p q))
 
 -- accepted: the body, the offset and place reached, the first place, the record, and whether `${` ended it
 abbrev body : List ℕ → ℕ → Position → Position → Terminator → Bool → Scanned × List ℕ
-body bs at p first r i = (Accepted (ending (cursor at p) first r i) (length bs), bs)
+body bs at p first r i = (accepted_as (ending (cursor at p) first r i) (length bs), bs)
 
 -- refused: the number and the place reported, the offset and place reached, the record
 abbrev fault_at : ℕ → Position → ℕ → Position → Terminator → Scanned
-fault_at n start at p r = Refused (refusal (fault n start) (cursor at p) r)
+fault_at n start at p r = Err (refusal (fault n start) (cursor at p) r)
 
 -- 6: the terminator, the place, the part, and the offset reached
 abbrev six : ℕ → Position → Part → ℕ → Scanned
-six q p about at = Refused (refusal (fault_in 6 p about) (cursor at p) (once q))
+six q p about at = Err (refusal (fault_in 6 p about) (cursor at p) (once q))
 
 -- the source's own table, its rows in order; where its table and its code differ (`hello\` LF and the end), its code
 abbrev pub Source : Type 0

@@ -1,4 +1,6 @@
 -- What the reading of a string literal tells is small where its start is. Assumes nothing.
+use Rattle.std.specs.declared.ops.ControlFlow.TheVariants.{Break, Continue}
+use Rattle.std.specs.Prelude.{Err, Ok}
 use Prim.Native.Nat.{ℕ}
 use mathlib.Core.Bool.{Bool}
 use mathlib.Core.List.{List}
@@ -13,14 +15,11 @@ use Rattle.literal.specs.Trace.{Trace, Yield}
 use Rattle.literal.proofs.Small.{Traced, yields_traced}
 use Rattle.string_turn.specs.Take.{input_end, take_of}
 use Rattle.string_turn.specs.declared.take.Scanning.{Scanning}
-use Rattle.string_turn.specs.declared.take.Last.{Last}
-use Rattle.string_turn.specs.declared.take.Last.TheVariants.{Good, Bad}
-use Rattle.string_turn.specs.declared.take.Got.{Got}
-use Rattle.string_turn.specs.declared.take.Got.TheVariants as got
+use Rattle.string_turn.specs.Answer.{Last}
+use Rattle.string_turn.specs.Answer.{Got}
 use Rattle.string_turn.proofs.take.Small.{LastSmall, GotSmall, end_small, take_small}
 use Rattle.string_turn.specs.Act.{act_of}
-use Rattle.string_turn.specs.declared.act.Acted.{Acted}
-use Rattle.string_turn.specs.declared.act.Acted.TheVariants as step
+use Rattle.string_turn.specs.Answer.{Acted}
 use Rattle.string_turn.proofs.act.Small.{StateSmall, StepSmall, act_small}
 use Rattle.string.specs.Ends.{last_of}
 use Rattle.string.specs.Reading.{on_got, on_acted, string_turn, string_rule, string_begun, string_reading}
@@ -29,18 +28,18 @@ module _ (t : List ℕ) where
   -- by what taking a character, or acting on it, led to
   got_cases : {A : Type 0} (P : A → Type 0) (x : Got) (f : ℕ → Cursor → A) (g : Last → A) → GotSmall t x
       → ((c : ℕ) (here : Cursor) → In t here → P (f c here)) → ((last : Last) → LastSmall t last → P (g last)) → P (on_got x f g)
-  got_cases P (got.Char c here) f g k y z = y c here k
-  got_cases P (got.Over last) f g k y z = z last k
+  got_cases P (Continue (c, here)) f g k y z = y c here k
+  got_cases P (Break last) f g k y z = z last k
 
   step_cases : {A : Type 0} (P : A → Type 0) (x : Acted) (f : ℕ → ℕ → Scanning → A) (g : Last → A) → StepSmall t x
       → ((c at : ℕ) (s : Scanning) → StateSmall t s → P (f c at s)) → ((last : Last) → LastSmall t last → P (g last)) → P (on_acted x f g)
-  step_cases P (step.Go c at s) f g k y z = y c at s k
-  step_cases P (step.Over last) f g k y z = z last k
+  step_cases P (Continue (c, at, s)) f g k y z = y c at s k
+  step_cases P (Break last) f g k y z = z last k
 
   last_traced : (start : Position) (last : Last) → LastSmall t last → Traced (length t) (last_of start last)
   unfolding last_of
-  last_traced start (Good e) k = k
-  last_traced start (Bad f) k = k
+  last_traced start (Ok e) k = k
+  last_traced start (Err f) k = k
 
 pub reading_traced : (white : ℕ → Bool) (t : List ℕ) (q : ℕ) (from : Cursor) → Small from.place → Traced (length t) (string_reading white t q from)
 unfolding string_reading string_begun string_rule string_turn

@@ -28,7 +28,7 @@ use Rattle.door.specs.Door.{door_of}
 use Rattle.white.specs.White.{is_white}
 use Rattle.literal.specs.Trace.{Trace, fails}
 use Rattle.literal.specs.Cut.{cut}
-use Rattle.literal.specs.declared.Scanned.{Scanned}
+use Rattle.literal.specs.Scans.{Scanned}
 use Rattle.classes.specs.Marks.{quote, apostrophe, backtick}
 use Rattle.literal.specs.Answers.{as_given, full}
 use Rattle.string.specs.Reading.{string_reading}

@@ -1,7 +1,8 @@
+pub mod Answer
 pub mod Ends
-pub mod Reading
-pub mod Limited
-pub mod Kept
-pub mod Units
-pub mod Standing
 pub mod Entry
+pub mod Kept
+pub mod Limited
+pub mod Reading
+pub mod Standing
+pub mod Units

@@ -1,4 +1,5 @@
 -- A turn under a limit, as the measuring loop makes it: what its answer tells of the reading.
+use Rattle.std.specs.declared.ops.ControlFlow.TheVariants.{Break, Continue}
 use Rattle.std.specs.Prelude.{ℕ, ◌≤◌, ◌<◌, List, ◌++◌, ◌≡◌, length}
 use Rattle.basis.specs.Types.{Code, Offset, Text}
 use Rattle.position.specs.declared.Position.{Position}
@@ -6,11 +7,10 @@ use Rattle.utf8.specs.Encode.{encoded}
 use Rattle.literal.specs.Trace.{Trace, adds, bytes}
 use Rattle.literal.specs.Cut.{cut}
 use Rattle.literal.specs.declared.Refusal.{Refusal}
-use Rattle.literal.specs.declared.Scanned.{Scanned}
+use Rattle.literal.specs.Scans.{Scanned}
 use Rattle.string_turn.specs.declared.take.Scanning.{Scanning}
 use Rattle.string.specs.Reading.{rest}
-use Rattle.string.specs.declared.scan.LimitedTurn.{LimitedTurn}
-use Rattle.string.specs.declared.scan.LimitedTurn.TheVariants.{On, Over}
+use Rattle.string.specs.Answer.{LimitedTurn}
 
 -- under a limit, with n bytes so far, a reading is answered so, whatever the room
 pub record LimitAnswers (limit n : ℕ) (x : Trace) (r : Scanned) : Type 0 where
@@ -25,5 +25,5 @@ pub record GoesOn (limit n : ℕ) (t : List ℕ) (q : ℕ) (start : Position) (a
 
 -- a turn's answer
 abbrev pub Tells : ℕ → ℕ → Text → Code → Position → Offset → Scanning → LimitedTurn → Type 0
-Tells limit n t q start at s (On d next r) = GoesOn limit n t q start at s d next r
-Tells limit n t q start at s (Over a) = LimitAnswers limit n (rest t q start at s) a
+Tells limit n t q start at s (Continue (d, next, r)) = GoesOn limit n t q start at s d next r
+Tells limit n t q start at s (Break a) = LimitAnswers limit n (rest t q start at s) a

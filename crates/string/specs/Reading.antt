@@ -1,5 +1,6 @@
 -- The reading of a string literal: document 01, "String literal", and the Rust's `parse_string_literal`. What the entry asks first is in Entry.
-use Rattle.std.specs.Prelude.{ℕ, suc, ◌-◌, ◌<◌, Bool, false, List, [], ◌∷◌, ◌≡◌, eqb, length}
+use Rattle.std.specs.declared.ops.ControlFlow.TheVariants.{Break, Continue}
+use Rattle.std.specs.Prelude.{ℕ, suc, ◌-◌, ◌<◌, Bool, false, List, [], ◌∷◌, ◌≡◌, eqb, length, None}
 use Rattle.basis.specs.Types.{Code, Offset, Text}
 use Rattle.position.specs.declared.Position.{Position}
 use Rattle.position.specs.Place.{none}
@@ -14,24 +15,21 @@ use Rattle.literal.specs.Answers.{once, too_long}
 use Rattle.string_turn.specs.Kinds.{is_verbatim, is_interpolated}
 use Rattle.string_turn.specs.Take.{scanning, input_end, take_of}
 use Rattle.string_turn.specs.Act.{act_of}
-use Rattle.string_turn.specs.declared.take.Pending.TheVariants.{Empty}
 use Rattle.string_turn.specs.declared.take.Scanning.{Scanning}
-use Rattle.string_turn.specs.declared.take.Last.{Last}
-use Rattle.string_turn.specs.declared.take.Got.{Got}
-use Rattle.string_turn.specs.declared.take.Got.TheVariants as got
-use Rattle.string_turn.specs.declared.act.Acted.{Acted}
-use Rattle.string_turn.specs.declared.act.Acted.TheVariants as acted
+use Rattle.string_turn.specs.Answer.{Last}
+use Rattle.string_turn.specs.Answer.{Got}
+use Rattle.string_turn.specs.Answer.{Acted}
 use Rattle.string.specs.Ends.{last_of}
 
 -- a character that was taken, or the scan over
 abbrev pub on_got : {A : Type 0} → Got → (ℕ → Cursor → A) → (Last → A) → A
-on_got (got.Char c here) f g = f c here
-on_got (got.Over last) f g = g last
+on_got (Continue (c, here)) f g = f c here
+on_got (Break last) f g = g last
 
 -- a step that goes on, or the scan over
 abbrev pub on_acted : {A : Type 0} → Acted → (ℕ → ℕ → Scanning → A) → (Last → A) → A
-on_acted (acted.Go c at s) f g = f c at s
-on_acted (acted.Over last) f g = g last
+on_acted (Continue (c, at, s)) f g = f c at s
+on_acted (Break last) f g = g last
 
 -- a turn: a character is taken, the limit is tested, and the character is acted on; of the characters cs from here on it takes those that are not left then
 unfoldable pub string_turn : (Code → Bool) → Text → Code → Position → Offset → List Ch → Scanning → Turn Scanning (List Yield) Trace
@@ -48,7 +46,7 @@ string_rule white t q start = record { turn = string_turn white t q start; end =
 
 -- before the first turn
 unfoldable pub string_begun : Position → Scanning
-string_begun p = scanning p none Empty 0
+string_begun p = scanning p none None 0
 
 -- the literal's reading by the unlimited rules, from a cursor whose place is the literal's start
 unfoldable pub string_reading : (Code → Bool) → Text → Code → Cursor → Trace

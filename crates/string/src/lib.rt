@@ -11,7 +11,7 @@ ghost use Rattle.string.specs.Entry.{start_number, argument_number, string_trace
 use chars::cursor::Cursor;
 use classes::marks::{APOSTROPHE, BACKTICK, QUOTE};
 use fault::Fault;
-use literal::Scanned;
+use literal::{Refusal, Scanned};
 use position::Position;
 
 // Whether a literal with the terminator may start at a place: 0, or 3.
@@ -66,12 +66,8 @@ pub fn parse_string_literal(
     if number == 0 {
         let room = out.len();
         let mut aside: [u8; 1] = [0; 1];
-        let scanned = scan::scan(text, from, terminator, limit, room, &mut aside);
-        let Scanned::Accepted(_, _) = scanned else {
-            return scanned;
-        };
-        scan::scan(text, from, terminator, limit, room, out);
-        return scanned;
+        scan::scan(text, from, terminator, limit, room, &mut aside)?;
+        return scan::scan(text, from, terminator, limit, room, out);
     }
-    Scanned::as_given(number, from)
+    Err(Refusal::as_given(number, from))
 }

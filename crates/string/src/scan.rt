@@ -16,10 +16,10 @@ ghost use Rattle.string.specs.Standing.{ScanLeads, ScanLeadsAnywhere};
 use chars::cursor::Cursor;
 use classes::marks::{APOSTROPHE, BACKSLASH, BACKTICK, CR, DOLLAR, LEFT_BRACE, LF, QUOTE, SPACE};
 use fault::Fault;
-use literal::{Scanned, Terminator};
+use literal::{Refusal, Scanned, Terminator};
 use position::Position;
-use string_turn::act::Acted;
-use string_turn::take::{Got, Last, Pending, Scanning, Stood};
+use std::ops::ControlFlow;
+use string_turn::take::{Last, Scanning, Stood};
 
 // Where a scan stands: the offset, the state, and the length of the body so far.
 #[derive(Clone, Copy)]
@@ -59,11 +59,7 @@ const NONE: Unit = Unit {
 };
 
 // A turn under a limit: as Acted, or the answer.
-#[derive(Clone, Copy)]
-enum LimitedTurn {
-    On(u32, usize, Scanning),
-    Over(Scanned),
-}
+type LimitedTurn = ControlFlow<Scanned, (u32, usize, Scanning)>;
 
 // How many bytes a character adds to the body.
 fn size(c: u32) -> usize
@@ -89,14 +85,14 @@ fn answered(start: Position, limit: usize, n: usize, last: Last) -> Scanned
     ensures { LimitAnswers limit n (last_of start last) result }
 {
     match last {
-        Last::Good(end) => {
+        Ok(end) => {
             if literal::is_over(limit, n) {
-                return Scanned::too_long(start, end.cursor, end.on_record);
+                return Err(Refusal::too_long(start, end.cursor, end.on_record));
             }
-            return Scanned::Accepted(end, n);
+            return Ok((end, n));
         }
-        Last::Bad(refusal) => {
-            return Scanned::Refused(refusal);
+        Err(refusal) => {
+            return Err(refusal);
         }
     }
 }
@@ -276,20 +272,20 @@ fn turn(
     ensures { Tells limit n text.now q start at s result }
 {
     match string_turn::take::take(text, q, start, at, s) {
-        Got::Over(last) => {
-            return LimitedTurn::Over(answered(start, limit, n, last));
+        ControlFlow::Break(last) => {
+            return ControlFlow::Break(answered(start, limit, n, last));
         }
-        Got::Char(c, here) => {
+        ControlFlow::Continue((c, here)) => {
             if literal::is_over(limit, n) {
                 let on_record = Terminator { c: q, times: 1 };
-                return LimitedTurn::Over(Scanned::too_long(start, here, on_record));
+                return ControlFlow::Break(Err(Refusal::too_long(start, here, on_record)));
             }
             match string_turn::act::act(text, q, start, c, here, s) {
-                Acted::Over(last) => {
-                    return LimitedTurn::Over(answered(start, limit, n, last));
+                ControlFlow::Break(last) => {
+                    return ControlFlow::Break(answered(start, limit, n, last));
                 }
-                Acted::Go(d, next, r) => {
-                    return LimitedTurn::On(d, next, r);
+                ControlFlow::Continue((d, next, r)) => {
+                    return ControlFlow::Continue((d, next, r));
                 }
             }
         }
@@ -303,7 +299,7 @@ fn begun(place: Position) -> Scanning
     Scanning {
         place,
         first: Position::NONE,
-        escape: Pending::Empty,
+        escape: None,
         skip: 0,
     }
 }
@@ -489,7 +485,7 @@ fn standing(here: Clear) -> ScanStand
     let state = Scanning {
         place,
         first,
-        escape: Pending::Empty,
+        escape: None,
         skip: here.skip,
     };
     ScanStand {
@@ -516,10 +512,10 @@ fn lead(
         let s = from.state;
         let pending = s.escape;
         match pending {
-            Pending::Backslash(_) => {
+            Some(_) => {
                 return from;
             }
-            Pending::Empty => {
+            None => {
                 let here = cleared(from.at, s, from.n);
                 return standing(ahead(text, q, start, limit, room, here, out));
             }
@@ -553,13 +549,13 @@ pub fn scan(text: &[u8], from: Cursor, q: u32, limit: usize, room: usize, out: &
         s = stand.state;
         n = stand.n;
         match turn(text, q, start, limit, n, at, s) {
-            LimitedTurn::Over(r) => {
+            ControlFlow::Break(r) => {
                 return r;
             }
-            LimitedTurn::On(d, next, r) => {
+            ControlFlow::Continue((d, next, r)) => {
                 let m = size(d);
                 if room - n < m {
-                    return Scanned::as_given(Fault::NO_LITERAL_ROOM, from);
+                    return Err(Refusal::as_given(Fault::NO_LITERAL_ROOM, from));
                 }
                 utf8::encoder::put(d, &mut *out, n);
                 n += m;

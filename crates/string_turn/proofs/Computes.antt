@@ -7,7 +7,7 @@ use Rattle.string_turn.specs.Act.{close_of, line_feed_of, escape_of, add_of, pla
 
 -- a character is taken
 unfoldable pub the_takes : Unit {0}
-unfolding is_verbatim is_continued is_interpolated unterminated_at malformed_at is_empty next_is input_end dollar_of take_of
+unfolding is_verbatim is_continued is_interpolated unterminated_at malformed_at next_is input_end dollar_of take_of
 the_takes = tt
 
 -- and acted on

@@ -1,5 +1,6 @@
-pub mod Kinds
-pub mod Endings
-pub mod Take
-pub mod Passing
 pub mod Act
+pub mod Answer
+pub mod Endings
+pub mod Kinds
+pub mod Passing
+pub mod Take

@@ -1,15 +1,14 @@
 -- Characters of a string literal, passed at once: those that a turn would take, add, and do nothing else with. They are passed where no escape is pending and nothing is skipped.
-use Rattle.std.specs.Prelude.{ℕ, ◌+◌, false, List, ◌≡◌, eqb}
+use Rattle.utf8.specs.Looks.{char_found}
+use Rattle.std.specs.Prelude.{ℕ, ◌+◌, false, List, ◌≡◌, eqb, None}
 use Rattle.basis.specs.Types.{Code, Offset}
 use Rattle.basis.specs.Pick.{pick}
 use Rattle.position.specs.declared.Position.{Position}
 use Rattle.position.specs.Place.{or_else, advanced, advanced_by, lined}
 use Rattle.utf8.specs.Table.{look_at}
-use Rattle.utf8.specs.declared.Look.TheVariants.{Char}
 use Rattle.chars.specs.Stretch.{StretchOf, Other}
 use Rattle.classes.specs.Marks.{lf, cr, dollar, backslash, backtick, left_brace}
 use Rattle.string_turn.specs.Take.{scanning, next_is}
-use Rattle.string_turn.specs.declared.take.Pending.TheVariants.{Empty}
 use Rattle.string_turn.specs.declared.take.Scanning.{Scanning}
 use Rattle.string_turn.specs.declared.take.Stood.{Stood}
 
@@ -34,7 +33,7 @@ stood at p f = record { at = at; place = p; first = f }
 
 -- its state: no escape is pending, and nothing is skipped
 abbrev pub stood_state : Stood → Scanning
-stood_state u = scanning u.place u.first Empty 0
+stood_state u = scanning u.place u.first None 0
 
 -- the first place, behind one character at least
 abbrev pub first_behind : Stood → Position
@@ -44,5 +43,5 @@ first_behind u = or_else u.first (advanced u.place)
 pub data StringPasses (t : List ℕ) (q : ℕ) : Stood → Stood → Type 0 where
   none : {u : Stood} → StringPasses t q u u
   some : {u : Stood} {k b : ℕ} → StretchOf t (Plain q) u.at k b → (k ≡ 0 → ⊥) → StringPasses t q u (stood b (advanced_by k u.place) (first_behind u))
-  one : {u : Stood} {c : ℕ} → q ≡ backtick → look_at t u.at ≡ Char c 1 → Added t (u.at + 1) c → StringPasses t q u (stood (u.at + 1) (place_behind c u.place) (first_behind u))
+  one : {u : Stood} {c : ℕ} → q ≡ backtick → look_at t u.at ≡ char_found c 1 → Added t (u.at + 1) c → StringPasses t q u (stood (u.at + 1) (place_behind c u.place) (first_behind u))
   then : {u v r : Stood} → StringPasses t q u v → StringPasses t q v r → StringPasses t q u r

@@ -1,40 +1,28 @@
 // One turn of a string literal, its second half: the character that was taken is acted on, behind the test of the limit that the
 // caller makes.
-ghost use Rattle.std.specs.Prelude.{◌≡◌, ◌-◌, ◌≤◌};
+ghost use Rattle.std.specs.declared.ops.ControlFlow.TheVariants.{Break};
+ghost use Rattle.std.specs.Prelude.{◌≡◌, ◌-◌, ◌≤◌, None, Err};
 ghost use Rattle.position.specs.Place.{column_number, rewound};
 ghost use Rattle.white.specs.White.{is_white};
 ghost use Rattle.fault.specs.Faults.{part};
 ghost use Rattle.chars.specs.Cursors.{cursor};
 ghost use Rattle.string_turn.specs.Endings.{unterminated_at, malformed_at};
 ghost use Rattle.string_turn.specs.Take.{scanning};
-ghost use Rattle.string_turn.specs.declared.take.Pending.TheVariants.{Empty};
-ghost use Rattle.string_turn.specs.declared.take.Last.TheVariants.{Bad};
-ghost use Rattle.string_turn.specs.declared.act.Acted.TheVariants.{Over};
 ghost use Rattle.string_turn.specs.Act.{close_of, line_feed_of, escape_of, add_of, plain_of, other_of, match_of, act_of};
 
-use crate::take::{Last, Pending, Scanning};
+use crate::take::{Last, Scanning};
 use crate::{kinds, take};
-use chars::cursor::{Cursor, Taken};
+use chars::cursor::Cursor;
 use classes::marks::{BACKSLASH, CR, LF};
 use escape::{Escaped, NOTHING};
 use fault::{Fault, Part};
 use literal::{End, Refusal, Terminator};
 use position::Position;
+use std::ops::ControlFlow;
 
 // What a character leads to: the character that is added, NOTHING for none, the offset and the state
 // from which the scan goes on; or how it is over.
-#[derive(Clone, Copy)]
-pub enum Acted {
-    Go(u32, usize, Scanning),
-    Over(Last),
-}
-
-// Whether a terminator closes the literal; else the cursor behind it, or behind both of a doubled one.
-#[derive(Clone, Copy)]
-enum Closing {
-    Closed,
-    Open(Cursor),
-}
+pub type Acted = ControlFlow<Last, (u32, usize, Scanning)>;
 
 // The column of a place; 0 for none.
 fn column(p: Position) -> usize
@@ -65,10 +53,10 @@ fn between(from: usize, to: usize) -> Part
 
 // 6: the terminator stays on record.
 fn malformed(q: u32, from: usize, here: Cursor) -> Acted
-    ensures { result ≡ Over (Bad (malformed_at q from here)) }
+    ensures { result ≡ Break (Err (malformed_at q from here)) }
 {
     let part = between(from, here.at);
-    Acted::Over(Last::Bad(Refusal {
+    ControlFlow::Break(Err(Refusal {
         fault: Fault::about(Fault::MALFORMED_ESCAPE_SEQUENCE, here.place, part),
         cursor: here,
         on_record: Terminator { c: q, times: 1 },
@@ -77,41 +65,41 @@ fn malformed(q: u32, from: usize, here: Cursor) -> Acted
 
 // A state with no escape pending.
 fn settled(place: Position, first: Position, skip: usize) -> Scanning
-    ensures { result ≡ scanning place first Empty skip }
+    ensures { result ≡ scanning place first None skip }
 {
     Scanning {
         place,
         first,
-        escape: Pending::Empty,
+        escape: None,
         skip,
     }
 }
 
-// A terminator alone closes; of a doubled one the second is taken too.
-fn close(text: &[u8], q: u32, c: u32, here: Cursor, escape: Pending) -> Closing
+// A terminator alone closes: None. Else the cursor behind it, or behind both of a doubled one.
+fn close(text: &[u8], q: u32, c: u32, here: Cursor, escape: Option<usize>) -> Option<Cursor>
     ensures { result ≡ close_of text.now q c here escape }
 {
     if c == q {
-        if escape.is_empty() {
-            let Taken::Char(d, next) = here.eat_next_and_advance(text) else {
-                return Closing::Closed;
+        if escape.is_none() {
+            let Some((d, next)) = here.eat_next_and_advance(text) else {
+                return None;
             };
             if d == q {
-                return Closing::Open(next);
+                return Some(next);
             }
-            return Closing::Closed;
+            return None;
         }
-        return Closing::Open(here);
+        return Some(here);
     }
-    Closing::Open(here)
+    Some(here)
 }
 
 // A line feed that ends the literal: 4, the column rewound.
 fn broken(start: Position, at: usize, p: Position) -> Acted
-    ensures { result ≡ Over (Bad (unterminated_at start (cursor at (rewound p)))) }
+    ensures { result ≡ Break (Err (unterminated_at start (cursor at (rewound p)))) }
 {
     let place = p.rewound();
-    Acted::Over(take::unterminated(start, Cursor { at, place }))
+    ControlFlow::Break(take::unterminated(start, Cursor { at, place }))
 }
 
 // A line feed, which starts a line unless the literal ends there.
@@ -128,14 +116,14 @@ fn line_feed(q: u32, start: Position, at: usize, s: Scanning) -> Acted
             escape,
             skip: s.skip,
         };
-        return Acted::Go(LF, at, next);
+        return ControlFlow::Continue((LF, at, next));
     }
     if kinds::is_continued(q) {
-        if escape.is_empty() {
+        if escape.is_none() {
             return broken(start, at, s.place);
         }
         let skip = column(start) + 1;
-        return Acted::Go(NOTHING, at, settled(s.place.lined(), s.first, skip));
+        return ControlFlow::Continue((NOTHING, at, settled(s.place.lined(), s.first, skip)));
     }
     broken(start, at, s.place)
 }
@@ -148,14 +136,14 @@ fn escaped(text: &[u8], q: u32, c: u32, from: usize, at: usize, s: Scanning) -> 
     let here = Cursor { at, place };
     match escape::unescape(text, c, here) {
         Escaped::Char(d, next) => {
-            return Acted::Go(d, next.at, settled(next.place, s.first, s.skip));
+            return ControlFlow::Continue((d, next.at, settled(next.place, s.first, s.skip)));
         }
         Escaped::Malformed(next) => {
             return malformed(q, from, next);
         }
         Escaped::Other => {
             if c == q {
-                return Acted::Go(q, at, settled(place, s.first, s.skip));
+                return ControlFlow::Continue((q, at, settled(place, s.first, s.skip)));
             }
             return malformed(q, from, here);
         }
@@ -169,11 +157,11 @@ fn add(c: u32, at: usize, s: Scanning) -> Acted
     let next = settled(s.place, s.first, 0);
     if white::is_white(c) {
         if column(s.place) < s.skip {
-            return Acted::Go(NOTHING, at, s);
+            return ControlFlow::Continue((NOTHING, at, s));
         }
-        return Acted::Go(c, at, next);
+        return ControlFlow::Continue((c, at, next));
     }
-    Acted::Go(c, at, next)
+    ControlFlow::Continue((c, at, next))
 }
 
 // A character with no escape pending.
@@ -189,10 +177,10 @@ fn plain(q: u32, c: u32, at: usize, s: Scanning) -> Acted
         let next = Scanning {
             place,
             first,
-            escape: Pending::Backslash(down(at)),
+            escape: Some(down(at)),
             skip: s.skip,
         };
-        return Acted::Go(NOTHING, at, next);
+        return ControlFlow::Continue((NOTHING, at, next));
     }
     add(c, at, s)
 }
@@ -203,10 +191,10 @@ fn other(text: &[u8], q: u32, c: u32, at: usize, s: Scanning) -> Acted
 {
     let escape = s.escape;
     match escape {
-        Pending::Empty => {
+        None => {
             return plain(q, c, at, s);
         }
-        Pending::Backslash(from) => {
+        Some(from) => {
             return escaped(text, q, c, from, at, s);
         }
     }
@@ -218,7 +206,7 @@ fn match_char(text: &[u8], q: u32, start: Position, c: u32, at: usize, s: Scanni
 {
     if c == CR {
         if take::next_is(text, at, LF) {
-            return Acted::Go(NOTHING, at, s);
+            return ControlFlow::Continue((NOTHING, at, s));
         }
         return other(text, q, c, at, s);
     }
@@ -235,8 +223,8 @@ pub fn act(text: &[u8], q: u32, start: Position, c: u32, here: Cursor, s: Scanni
     let first = s.first;
     let escape = s.escape;
     let skip = s.skip;
-    let Closing::Open(to) = close(text, q, c, here, escape) else {
-        return Acted::Over(Last::Good(End {
+    let Some(to) = close(text, q, c, here, escape) else {
+        return ControlFlow::Break(Ok(End {
             cursor: here,
             first,
             on_record: Terminator::NONE,

@@ -3,39 +3,29 @@ ghost use Rattle.std.specs.Prelude.{true, false, ◌≡◌, ◌+◌, ◌≤◌, 
 ghost use Rattle.classes.specs.Marks.{backtick};
 ghost use Rattle.literal.specs.Answers.{once, ending};
 ghost use Rattle.string_turn.specs.Endings.{unterminated_at};
-ghost use Rattle.string_turn.specs.Take.{is_empty, next_is, input_end, dollar_of, take_of};
+ghost use Rattle.string_turn.specs.Take.{next_is, input_end, dollar_of, take_of};
 ghost use Rattle.string_turn.specs.Passing.{Plain, Added, place_behind, StringPasses};
 
 use crate::kinds;
-use chars::cursor::{Cursor, Taken};
+use chars::cursor::Cursor;
 use classes::marks::{BACKSLASH, BACKTICK, CR, DOLLAR, LEFT_BRACE, LF};
 use fault::Fault;
 use literal::{End, Refusal, Terminator};
 use position::Position;
-use utf8::Look;
-
-// What is pending of an escape: nothing, or a lone backslash, with the offset where it stands.
-#[derive(Clone, Copy)]
-pub enum Pending {
-    Empty,
-    Backslash(usize),
-}
+use std::ops::ControlFlow;
 
 // What a turn leaves to the next one. White space in columns below `skip` is skipped.
 #[derive(Clone, Copy)]
 pub struct Scanning {
     pub place: Position,
     pub first: Position,
-    pub escape: Pending,
+    // The offset of a lone backslash that is pending.
+    pub escape: Option<usize>,
     pub skip: usize,
 }
 
 // How a scan is over, but for the limit, which is tested again at a good end.
-#[derive(Clone, Copy)]
-pub enum Last {
-    Good(End),
-    Bad(Refusal),
-}
+pub type Last = Result<End, Refusal>;
 
 // Where a scan stands with no escape pending and no white space to skip.
 #[derive(Clone, Copy)]
@@ -46,28 +36,13 @@ pub struct Stood {
 }
 
 // The character of a turn and the cursor behind it, or how the scan is over.
-#[derive(Clone, Copy)]
-pub enum Got {
-    Char(u32, Cursor),
-    Over(Last),
-}
-
-impl Pending {
-    pub(crate) fn is_empty(self) -> bool
-        ensures { result ≡ is_empty self }
-    {
-        match self {
-            Pending::Empty => true,
-            Pending::Backslash(_) => false,
-        }
-    }
-}
+pub type Got = ControlFlow<Last, (u32, Cursor)>;
 
 // Whether the character at an offset is c.
 pub(crate) fn next_is(text: &[u8], at: usize, c: u32) -> bool
     ensures { result ≡ next_is text.now at c }
 {
-    let Look::Char(d, _) = utf8::look_at(text, at) else {
+    let Some((d, _)) = utf8::look_at(text, at) else {
         return false;
     };
     d == c
@@ -75,9 +50,9 @@ pub(crate) fn next_is(text: &[u8], at: usize, c: u32) -> bool
 
 // 4, at the start of the literal: the record is cleared.
 pub(crate) fn unterminated(start: Position, here: Cursor) -> Last
-    ensures { result ≡ Last.Bad (unterminated_at start here) }
+    ensures { result ≡ Err (unterminated_at start here) }
 {
-    Last::Bad(Refusal {
+    Err(Refusal {
         fault: Fault::at(Fault::UNTERMINATED_STRING, start),
         cursor: here,
         on_record: Terminator::NONE,
@@ -95,7 +70,7 @@ fn at_end(q: u32, start: Position, at: usize, s: Scanning) -> Last
     }
     if kinds::is_continued(q) {
         let escape = s.escape;
-        if escape.is_empty() {
+        if escape.is_none() {
             return unterminated(start, here);
         }
         return still_open(q, here, s.first);
@@ -105,9 +80,9 @@ fn at_end(q: u32, start: Position, at: usize, s: Scanning) -> Last
 
 // An end that is accepted with the terminator on record.
 fn still_open(q: u32, here: Cursor, first: Position) -> Last
-    ensures { result ≡ Last.Good (ending here first (once q) false) }
+    ensures { result ≡ Ok (ending here first (once q) false) }
 {
-    Last::Good(End {
+    Ok(End {
         cursor: here,
         first,
         on_record: Terminator { c: q, times: 1 },
@@ -121,28 +96,28 @@ fn dollar(text: &[u8], c: u32, here: Cursor, first: Position) -> Got
 {
     if c == DOLLAR {
         if next_is(text, here.at, LEFT_BRACE) {
-            return Got::Over(Last::Good(End {
+            return ControlFlow::Break(Ok(End {
                 cursor: here,
                 first,
                 on_record: Terminator::NONE,
                 interpolated: true,
             }));
         }
-        return Got::Char(c, here);
+        return ControlFlow::Continue((c, here));
     }
     if c == BACKSLASH {
-        let Taken::Char(d, next) = here.get_next(text) else {
-            return Got::Char(c, here);
+        let Some((d, next)) = here.get_next(text) else {
+            return ControlFlow::Continue((c, here));
         };
         if d == DOLLAR {
             if next_is(text, next.at, LEFT_BRACE) {
-                return Got::Char(DOLLAR, next);
+                return ControlFlow::Continue((DOLLAR, next));
             }
-            return Got::Char(c, here);
+            return ControlFlow::Continue((c, here));
         }
-        return Got::Char(c, here);
+        return ControlFlow::Continue((c, here));
     }
-    Got::Char(c, here)
+    ControlFlow::Continue((c, here))
 }
 
 // The character of a turn that begins at an offset, taken with a column; or how the scan is over.
@@ -152,16 +127,16 @@ pub fn take(text: &[u8], q: u32, start: Position, at: usize, s: Scanning) -> Got
     let place = s.place;
     let escape = s.escape;
     let from = Cursor { at, place };
-    let Taken::Char(c, here) = from.eat_next_and_advance(text) else {
-        return Got::Over(at_end(q, start, at, s));
+    let Some((c, here)) = from.eat_next_and_advance(text) else {
+        return ControlFlow::Break(at_end(q, start, at, s));
     };
     if kinds::is_interpolated(q) {
-        if escape.is_empty() {
+        if escape.is_none() {
             return dollar(text, c, here, s.first);
         }
-        return Got::Char(c, here);
+        return ControlFlow::Continue((c, here));
     }
-    Got::Char(c, here)
+    ControlFlow::Continue((c, here))
 }
 
 // Passes all but the terminator, a backslash, `$`, LF and CR, in `most` bytes at the most.

@@ -1,4 +1,5 @@
 -- The longest symbol at the front of a text is told by its first three bytes, and by whether an identifier goes on behind them: one computed test over the list says that no symbol is longer, and that none has the byte 0, which stands for the end. Assumes nothing.
+use Rattle.std.specs.Prelude.{None}
 use Prim.Native.Nat.{ℕ}
 use mathlib.Core.Bool.{Bool, true, false}
 use mathlib.Core.Path.{◌≡◌, refl, ap}
@@ -12,8 +13,7 @@ use Rattle.classes.specs.Class.{is_id_first_alphabetic, is_id_continue}
 use Rattle.token.specs.Tokens as Token
 use Rattle.token.specs.Keywords.{KeywordEntry, keywords}
 use Rattle.symbols.specs.Symbols.{is_symbol, stands, standing, longer, longest_in, longest_of}
-use Rattle.symbols.specs.declared.Longest.{Longest}
-use Rattle.symbols.specs.declared.Longest.TheVariants.{Symbol, Nothing}
+use Rattle.symbols.specs.Found.{Longest, symbol_as}
 
 -- ---- the definitions of `specs/Symbols.antt`, asked of bytes
 -- a word of three bytes at most stands where the bytes a, b, c do
@@ -35,8 +35,8 @@ abbrev stands_by : KeywordEntry → ℕ → ℕ → ℕ → Bool → Bool
 stands_by e a b c on = both (is_symbol e.text) (begins_and (isnt (both (eqb e.token Token.NotIn) on)) e.text a b c)
 
 abbrev pub longest_by : List KeywordEntry → ℕ → ℕ → ℕ → Bool → Longest
-longest_by [] a b c on = Nothing
-longest_by (e ∷ es) a b c on = longer (pick (stands_by e a b c on) (Symbol e.token (length e.text)) Nothing) (longest_by es a b c on)
+longest_by [] a b c on = None
+longest_by (e ∷ es) a b c on = longer (pick (stands_by e a b c on) (symbol_as e.token (length e.text)) None) (longest_by es a b c on)
 
 -- ---- the test: a symbol has one byte to three, none of them 0, and `!in` has three
 abbrev short : List ℕ → Bool

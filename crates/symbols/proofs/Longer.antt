@@ -1,4 +1,5 @@
 -- The longest symbol at a place is the longest: it stands there, and no listed symbol that stands there is longer. Assumes nothing.
+use Rattle.std.specs.Prelude.{None, Some}
 use Prim.Native.Nat.{ℕ, zero, suc, ◌+◌, ◌≤◌, ◌<◌}
 use native.Mathlib.Omega.{arith}
 use native.Mathlib.Nat.{le_refl, le_trans}
@@ -9,12 +10,12 @@ use mathlib.Core.List.{List, [], ◌∷◌}
 use lib.Dec.{ltb}
 use lib.ListN.{length, get_or, drop, length-drop}
 use borrow.Author.Tests.{ltb-true, ltb-false}
+use Rattle.std.proofs.lemmas.Option.{some_pair_parts}
 use Rattle.basis.proofs.Cases.{pick_cases, not_both, both_left, both_right}
 use Rattle.token.specs.Keywords.{KeywordEntry, keywords, blank, entry_at}
 use Rattle.basis.specs.Words.{begins}
 use Rattle.symbols.specs.Symbols.{is_symbol, stands, standing, longer, longest_in, longest_of, longest_symbol_of}
-use Rattle.symbols.specs.declared.Longest.{Longest}
-use Rattle.symbols.specs.declared.Longest.TheVariants.{Symbol, Nothing}
+use Rattle.symbols.specs.Found.{Longest, symbol_as}
 use Rattle.token.proofs.Places.{many}
 use Rattle.keywords.proofs.Same.{begins_within}
 
@@ -28,23 +29,23 @@ pub record Stands (s : List ℕ) (t n : ℕ) : Type 0 where
 
 -- the length of a symbol, 0 for nothing
 unfoldable pub size_of : Longest → ℕ
-size_of Nothing = 0
-size_of (Symbol t n) = n
+size_of None = 0
+size_of (Some (t, n)) = n
 
 -- ---- the longer of two is one of them, and no shorter than either
 one_of : (a b r : Longest) → longer a b ≡ r → (a ≡ r) ⊎ (b ≡ r)
 unfolding longer
-one_of Nothing b r e = inr e
-one_of (Symbol t n) Nothing r e = inl e
-one_of (Symbol t n) (Symbol u m) r e =
-    pick_cases (λ (l : Longest). l ≡ r → (Symbol t n ≡ r) ⊎ (Symbol u m ≡ r)) (ltb n m) (Symbol u m) (Symbol t n) (λ z g. inr g) (λ z g. inl g) e
+one_of None b r e = inr e
+one_of (Some (t, n)) None r e = inl e
+one_of (Some (t, n)) (Some (u, m)) r e =
+    pick_cases (λ (l : Longest). l ≡ r → (symbol_as t n ≡ r) ⊎ (symbol_as u m ≡ r)) (ltb n m) (symbol_as u m) (symbol_as t n) (λ z g. inr g) (λ z g. inl g) e
 
 no_shorter : (a b : Longest) → (size_of a ≤ size_of (longer a b)) × (size_of b ≤ size_of (longer a b))
 unfolding longer size_of
-no_shorter Nothing b = (omega arith, le_refl (size_of b))
-no_shorter (Symbol t n) Nothing = (le_refl n, omega arith)
-no_shorter (Symbol t n) (Symbol u m) =
-    pick_cases (λ (l : Longest). (n ≤ size_of l) × (m ≤ size_of l)) (ltb n m) (Symbol u m) (Symbol t n)
+no_shorter None b = (omega arith, le_refl (size_of b))
+no_shorter (Some (t, n)) None = (le_refl n, omega arith)
+no_shorter (Some (t, n)) (Some (u, m)) =
+    pick_cases (λ (l : Longest). (n ≤ size_of l) × (m ≤ size_of l)) (ltb n m) (symbol_as u m) (symbol_as t n)
     (λ z. (omega (arith, ltb-true n m z), omega arith))
     (λ z. (omega arith, omega (arith, ltb-false n m z)))
 
@@ -61,20 +62,20 @@ module _ (s : List ℕ) where
     size : length (get_or es place blank).text ≡ n
     there : stands s (get_or es place blank) ≡ true
 
-  standing_has : (e : KeywordEntry) (es : List KeywordEntry) (t n : ℕ) → standing s e ≡ Symbol t n → Has (e ∷ es) t n
+  standing_has : (e : KeywordEntry) (es : List KeywordEntry) (t n : ℕ) → standing s e ≡ symbol_as t n → Has (e ∷ es) t n
   unfolding standing
   standing_has e es t n =
-      pick_cases (λ (l : Longest). l ≡ Symbol t n → Has (e ∷ es) t n) (stands s e) (Symbol e.token (length e.text)) Nothing
-      (λ z g. record { place = 0; within = omega arith; token = cc; size = cc; there = z })
+      pick_cases (λ (l : Longest). l ≡ symbol_as t n → Has (e ∷ es) t n) (stands s e) (symbol_as e.token (length e.text)) None
+      (λ z g. let p = some_pair_parts e.token t (length e.text) n g in record { place = 0; within = omega arith; token = p.0; size = p.1; there = z })
       (λ z g. let y : ◌≡◌ {A = ℕ} 0 1 = cc in absurd (omega arith))
 
-  longest_has : (es : List KeywordEntry) (t n : ℕ) → longest_in es s ≡ Symbol t n → Has es t n
+  longest_has : (es : List KeywordEntry) (t n : ℕ) → longest_in es s ≡ symbol_as t n → Has es t n
   unfolding longest_in
   longest_has [] t n e = let y : ◌≡◌ {A = ℕ} 0 1 = cc in absurd (omega arith)
   longest_has (d ∷ es) t n e =
       ⊎_elim (standing_has d es t n)
       (λ g. let h = longest_has es t n g in record { place = suc h.place; within = omega (arith, h.within); token = h.token; size = h.size; there = h.there })
-      (one_of (standing s d) (longest_in es s) (Symbol t n) e)
+      (one_of (standing s d) (longest_in es s) (symbol_as t n) e)
 
   longest_most : (es : List KeywordEntry) (k : ℕ) → k < length es → stands s (get_or es k blank) ≡ true → length (get_or es k blank).text ≤ size_of (longest_in es s)
   unfolding longest_in
@@ -102,11 +103,11 @@ module _ (s : List ℕ) where
   unfolding entry_at longest_of
   listed_most k h z = longest_most s keywords k (rw many h) z
 
-  pub nothing_longest : longest_of s ≡ Nothing → (k : ℕ) → k < 153 → stands s (entry_at k) ≡ true → ⊥
+  pub nothing_longest : longest_of s ≡ None → (k : ℕ) → k < 153 → stands s (entry_at k) ≡ true → ⊥
   unfolding size_of
   nothing_longest e k h z = omega (arith, rw e at (listed_most k h z), stands_some s (entry_at k) z)
 
-  module _ (t n : ℕ) (e : longest_of s ≡ Symbol t n) where
+  module _ (t n : ℕ) (e : longest_of s ≡ symbol_as t n) where
     pub symbol_stands : Stands s t n
     unfolding longest_of entry_at
     symbol_stands =
@@ -123,7 +124,7 @@ module _ (s : List ℕ) where
         (omega (arith, r.size, stands_some s (entry_at r.place) r.there), omega (arith, r.size, stands_within s (entry_at r.place) r.there))
 
 -- at an offset of a text
-pub offset_within : (text : List ℕ) (at t n : ℕ) → longest_symbol_of text at ≡ Symbol t n → (0 < n) × (at + n ≤ length text)
+pub offset_within : (text : List ℕ) (at t n : ℕ) → longest_symbol_of text at ≡ symbol_as t n → (0 < n) × (at + n ≤ length text)
 unfolding longest_symbol_of
 offset_within text at t n e =
     let r = symbol_within (drop at text) t n e in

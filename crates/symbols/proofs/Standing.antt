@@ -6,7 +6,7 @@ use mathlib.Core.List.{List}
 use lib.ListN.{length, take, drop, length-drop}
 use lib.Seq.{take_all}
 use Rattle.symbols.specs.Symbols.{longest_of, longest_symbol_of}
-use Rattle.symbols.specs.declared.Longest.{Longest}
+use Rattle.symbols.specs.Found.{Longest}
 
 pub from_offset : (s : List ℕ) (at : ℕ) (r : Longest) → r ≡ longest_of (take (length s - at) (drop at s)) → r ≡ longest_symbol_of s at
 unfolding longest_symbol_of

@@ -1,21 +1,20 @@
 -- What a byte begins, by the bytes behind it, in the shape of the code. The crate's answers are those of `specs/Symbols.antt`.
-use Rattle.std.specs.Prelude.{ℕ, Bool, eqb}
+use Rattle.std.specs.Prelude.{ℕ, Bool, eqb, None}
 use Rattle.basis.specs.Pick.{pick}
 use Rattle.token.specs.Tokens as Token
-use Rattle.symbols.specs.declared.Longest.{Longest}
-use Rattle.symbols.specs.declared.Longest.TheVariants.{Symbol, Nothing}
+use Rattle.symbols.specs.Found.{Longest, symbol_as}
 
 -- one character, or two where the second is the one given
 unfoldable pub followed_of : ℕ → ℕ → ℕ → ℕ → Longest
-followed_of b one second two = pick (eqb b second) (Symbol two 2) (Symbol one 1)
+followed_of b one second two = pick (eqb b second) (symbol_as two 2) (symbol_as one 1)
 
 -- one character, or two where the second is `=` or the one given
 unfoldable pub assigned_of : ℕ → ℕ → ℕ → ℕ → ℕ → Longest
-assigned_of b one assign second two = pick (eqb b 0x3D) (Symbol assign 2) (followed_of b one second two)
+assigned_of b one assign second two = pick (eqb b 0x3D) (symbol_as assign 2) (followed_of b one second two)
 
 -- one character, or twice that, each alone or before `=`
 unfoldable pub doubled_of : ℕ → ℕ → ℕ → ℕ → ℕ → ℕ → ℕ → Longest
-doubled_of b c first one assign two three = pick (eqb b first) (pick (eqb c 0x3D) (Symbol three 3) (Symbol two 2)) (followed_of b one 0x3D assign)
+doubled_of b c first one assign two three = pick (eqb b first) (pick (eqb c 0x3D) (symbol_as three 3) (symbol_as two 2)) (followed_of b one 0x3D assign)
 
 -- `*`, `*=`, `**`, `**=`
 abbrev pub stars_of : ℕ → ℕ → Longest
@@ -31,21 +30,21 @@ greater_of b c = doubled_of b c 0x3E Token.GreaterThan Token.GreaterThanEqualsTo
 
 -- `.`, `..`, `..=`
 unfoldable pub dots_of : ℕ → ℕ → Longest
-dots_of b c = pick (eqb b 0x2E) (pick (eqb c 0x3D) (Symbol Token.InclusiveRange 3) (Symbol Token.ExclusiveRange 2)) (Symbol Token.Period 1)
+dots_of b c = pick (eqb b 0x2E) (pick (eqb c 0x3D) (symbol_as Token.InclusiveRange 3) (symbol_as Token.ExclusiveRange 2)) (symbol_as Token.Period 1)
 
 -- `!`, `!=`, and `!in` unless an identifier goes on behind it
 unfoldable pub bang_of : ℕ → ℕ → Bool → Longest
 bang_of b c on =
     pick (eqb b 0x69)
-    (pick (eqb c 0x6E) (pick on (Symbol Token.Bang 1) (Symbol Token.NotIn 3)) (Symbol Token.Bang 1))
+    (pick (eqb c 0x6E) (pick on (symbol_as Token.Bang 1) (symbol_as Token.NotIn 3)) (symbol_as Token.Bang 1))
     (followed_of b Token.Bang 0x3D Token.NotEqualsTo)
 
 -- `?.`, `?[`, `??`
 unfoldable pub question_of : ℕ → Longest
 question_of b =
-    pick (eqb b 0x2E) (Symbol Token.Elvis 2)
-    (pick (eqb b 0x5B) (Symbol Token.QuestionBracket 2) (pick (eqb b 0x3F) (Symbol Token.DoubleQuestion 2) Nothing))
+    pick (eqb b 0x2E) (symbol_as Token.Elvis 2)
+    (pick (eqb b 0x5B) (symbol_as Token.QuestionBracket 2) (pick (eqb b 0x3F) (symbol_as Token.DoubleQuestion 2) None))
 
 -- `#{`
 unfoldable pub map_start_of : ℕ → Longest
-map_start_of b = pick (eqb b 0x7B) (Symbol Token.MapStart 2) Nothing
+map_start_of b = pick (eqb b 0x7B) (symbol_as Token.MapStart 2) None

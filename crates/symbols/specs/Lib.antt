@@ -1,2 +1,3 @@
-pub mod Symbols
 pub mod Begun
+pub mod Found
+pub mod Symbols

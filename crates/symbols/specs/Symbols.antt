@@ -1,13 +1,12 @@
 -- The longest listed symbol at a place. Document 01, "Run": "else the longest listed symbol, `!in` only if no identifier character follows".
-use Rattle.std.specs.Prelude.{Bool, false, List, [], ◌∷◌, eqb, ltb, length, get_or, drop}
+use Rattle.std.specs.Prelude.{Bool, false, List, [], ◌∷◌, eqb, ltb, length, get_or, drop, None, Some}
 use Rattle.basis.specs.Types.{Text, Offset}
 use Rattle.basis.specs.Pick.{pick, both, isnt}
 use Rattle.classes.specs.Class.{is_id_first_alphabetic, is_id_continue}
 use Rattle.token.specs.Tokens as Token
 use Rattle.token.specs.Keywords.{KeywordEntry, keywords}
 use Rattle.basis.specs.Words.{begins}
-use Rattle.symbols.specs.declared.Longest.{Longest}
-use Rattle.symbols.specs.declared.Longest.TheVariants.{Symbol, Nothing}
+use Rattle.symbols.specs.Found.{Longest, symbol_as}
 
 -- a listed text that is a symbol: its first byte is no letter
 unfoldable pub is_symbol : Text → Bool
@@ -20,17 +19,17 @@ stands s e = both (is_symbol e.text) (both (begins e.text s) (isnt (both (eqb e.
 
 -- a place's token and the length of its text, where it stands
 unfoldable pub standing : Text → KeywordEntry → Longest
-standing s e = pick (stands s e) (Symbol e.token (length e.text)) Nothing
+standing s e = pick (stands s e) (symbol_as e.token (length e.text)) None
 
 -- the longer of two; the first where they are equally long
 unfoldable pub longer : Longest → Longest → Longest
-longer Nothing b = b
-longer (Symbol t n) Nothing = Symbol t n
-longer (Symbol t n) (Symbol u m) = pick (ltb n m) (Symbol u m) (Symbol t n)
+longer None b = b
+longer (Some (t, n)) None = symbol_as t n
+longer (Some (t, n)) (Some (u, m)) = pick (ltb n m) (symbol_as u m) (symbol_as t n)
 
 -- the longest that stands, of all places
 unfoldable pub longest_in : List KeywordEntry → Text → Longest
-longest_in [] s = Nothing
+longest_in [] s = None
 longest_in (e ∷ es) s = longer (standing s e) (longest_in es s)
 
 -- the longest listed symbol at the front of a text

@@ -1,7 +1,7 @@
 // The longest symbol at a place of a text, by the list of `token`.
 #![tactic(auto)]
 
-ghost use Rattle.std.specs.Prelude.{◌≡◌, get_or};
+ghost use Rattle.std.specs.Prelude.{◌≡◌, ◌<◌, get_or};
 ghost use Rattle.classes.specs.Class.{is_id_continue};
 ghost use Rattle.symbols.specs.Symbols.{longest_of};
 ghost use Rattle.symbols.specs.Begun.{
@@ -20,63 +20,43 @@ ghost use Rattle.symbols.specs.Begun.{
 use token::tokens::*;
 
 // A symbol's token and its length in bytes, or nothing.
-#[derive(Clone, Copy)]
-pub enum Longest {
-    Symbol(u8, usize),
-    Nothing,
-}
-
-// Whether an identifier goes on at an offset; it does not at the end.
-fn goes_on(text: &[u8], at: usize) -> bool
-    ensures { result ≡ is_id_continue (get_or text.now at 0) }
-{
-    if at < text.len() {
-        return classes::is_id_continue(text[at] as u32);
-    }
-    false
-}
-
-// The byte at an offset; at the end 0, which no symbol has.
-fn byte_at(text: &[u8], at: usize) -> u8
-    ensures { result ≡ get_or text.now at 0 }
-{
-    if at < text.len() {
-        return text[at];
-    }
-    0
-}
+pub type Longest = Option<(u8, usize)>;
 
 // A symbol of one character, or of two where the second is the one given.
+#[tactic(auto, unfolding(crate::specs::Begun::followed_of))]
 fn followed(text: &[u8], one: u8, second: u8, two: u8) -> Longest
+    requires { 0 < second }
     ensures { result ≡ followed_of (get_or text.now 1 0) one second two }
 {
-    if byte_at(text, 1) == second {
-        return Longest::Symbol(two, 2);
+    match text {
+        [_, b, ..] if *b == second => Some((two, 2)),
+        _ => Some((one, 1)),
     }
-    Longest::Symbol(one, 1)
 }
 
 // A symbol of one character, or of two where the second is `=` or the one given.
+#[tactic(auto, unfolding(crate::specs::Begun::assigned_of))]
 fn assigned(text: &[u8], one: u8, assign: u8, second: u8, two: u8) -> Longest
+    requires { 0 < second }
     ensures { result ≡ assigned_of (get_or text.now 1 0) one assign second two }
 {
-    if byte_at(text, 1) == b'=' {
-        return Longest::Symbol(assign, 2);
+    match text {
+        [_, b'=', ..] => Some((assign, 2)),
+        _ => followed(text, one, second, two),
     }
-    followed(text, one, second, two)
 }
 
 // A symbol of one character, or twice that, each alone or before `=`.
+#[tactic(auto, unfolding(crate::specs::Begun::doubled_of))]
 fn doubled(text: &[u8], first: u8, one: u8, assign: u8, two: u8, three: u8) -> Longest
+    requires { 0 < first }
     ensures { result ≡ doubled_of (get_or text.now 1 0) (get_or text.now 2 0) first one assign two three }
 {
-    if byte_at(text, 1) == first {
-        if byte_at(text, 2) == b'=' {
-            return Longest::Symbol(three, 3);
-        }
-        return Longest::Symbol(two, 2);
+    match text {
+        [_, b, b'=', ..] if *b == first => Some((three, 3)),
+        [_, b, ..] if *b == first => Some((two, 2)),
+        _ => followed(text, one, b'=', assign),
     }
-    followed(text, one, b'=', assign)
 }
 
 // What `*` begins.
@@ -122,75 +102,74 @@ fn greater(text: &[u8]) -> Longest
 }
 
 // What `.` begins.
+#[tactic(auto, unfolding(crate::specs::Begun::dots_of))]
 fn dots(text: &[u8]) -> Longest
     ensures { result ≡ dots_of (get_or text.now 1 0) (get_or text.now 2 0) }
 {
-    if byte_at(text, 1) == b'.' {
-        if byte_at(text, 2) == b'=' {
-            return Longest::Symbol(INCLUSIVE_RANGE, 3);
-        }
-        return Longest::Symbol(EXCLUSIVE_RANGE, 2);
+    match text {
+        [_, b'.', b'=', ..] => Some((INCLUSIVE_RANGE, 3)),
+        [_, b'.', ..] => Some((EXCLUSIVE_RANGE, 2)),
+        _ => Some((PERIOD, 1)),
     }
-    Longest::Symbol(PERIOD, 1)
 }
 
 // What `!` begins: `!in` only if no identifier goes on there.
+#[tactic(auto, using(crate::proofs::Begun::not_on), unfolding(crate::specs::Begun::bang_of, crate::specs::Begun::followed_of))]
 fn bang(text: &[u8]) -> Longest
     ensures { result ≡ bang_of (get_or text.now 1 0) (get_or text.now 2 0) (is_id_continue (get_or text.now 3 0)) }
 {
-    if byte_at(text, 1) == b'i' {
-        if byte_at(text, 2) == b'n' {
-            if goes_on(text, 3) {
-                return Longest::Symbol(BANG, 1);
-            }
-            return Longest::Symbol(NOT_IN, 3);
+    match text {
+        [_, b'i', b'n', b, ..] if classes::is_id_continue(u32::from(*b)) => {
+            Some((BANG, 1))
         }
-        return Longest::Symbol(BANG, 1);
+        [_, b'i', b'n', ..] => Some((NOT_IN, 3)),
+        [_, b'=', ..] => Some((NOT_EQUALS_TO, 2)),
+        _ => Some((BANG, 1)),
     }
-    followed(text, BANG, b'=', NOT_EQUALS_TO)
 }
 
 // What `?` begins, which is no symbol by itself.
+#[tactic(auto, unfolding(crate::specs::Begun::question_of))]
 fn question(text: &[u8]) -> Longest
     ensures { result ≡ question_of (get_or text.now 1 0) }
 {
-    let second = byte_at(text, 1);
-    if second == b'.' {
-        return Longest::Symbol(ELVIS, 2);
+    match text {
+        [_, b'.', ..] => Some((ELVIS, 2)),
+        [_, b'[', ..] => Some((QUESTION_BRACKET, 2)),
+        [_, b'?', ..] => Some((DOUBLE_QUESTION, 2)),
+        _ => None,
     }
-    if second == b'[' {
-        return Longest::Symbol(QUESTION_BRACKET, 2);
-    }
-    if second == b'?' {
-        return Longest::Symbol(DOUBLE_QUESTION, 2);
-    }
-    Longest::Nothing
 }
 
 // What `#` begins, which is no symbol by itself.
+#[tactic(auto, unfolding(crate::specs::Begun::map_start_of))]
 fn hash(text: &[u8]) -> Longest
     ensures { result ≡ map_start_of (get_or text.now 1 0) }
 {
-    if byte_at(text, 1) == b'{' {
-        return Longest::Symbol(MAP_START, 2);
+    match text {
+        [_, b'{', ..] => Some((MAP_START, 2)),
+        _ => None,
     }
-    Longest::Nothing
 }
 
 // The longest symbol at the front of a text, by its first byte.
+#[tactic(auto, using(crate::proofs::Fronts::by_bytes, crate::proofs::Begun::followed_is, crate::proofs::Begun::assigned_is, crate::proofs::Begun::doubled_is, crate::proofs::Begun::dots_is, crate::proofs::Begun::bang_is, crate::proofs::Begun::question_is, crate::proofs::Begun::hash_is), unfolding(token::specs::Keywords::keywords, basis::specs::Words::word, classes::specs::Class::is_id_first_alphabetic, crate::specs::Symbols::is_symbol, crate::specs::Symbols::longer))]
 pub fn longest_of(text: &[u8]) -> Longest
     ensures { result ≡ longest_of text.now }
 {
-    match byte_at(text, 0) {
+    let [first, ..] = text else {
+        return None;
+    };
+    match *first {
         b'(' => followed(text, LEFT_PAREN, b')', UNIT),
-        b')' => Longest::Symbol(RIGHT_PAREN, 1),
-        b'[' => Longest::Symbol(LEFT_BRACKET, 1),
-        b']' => Longest::Symbol(RIGHT_BRACKET, 1),
-        b'{' => Longest::Symbol(LEFT_BRACE, 1),
-        b'}' => Longest::Symbol(RIGHT_BRACE, 1),
-        b',' => Longest::Symbol(COMMA, 1),
-        b';' => Longest::Symbol(SEMI_COLON, 1),
-        b'_' => Longest::Symbol(UNDERSCORE, 1),
+        b')' => Some((RIGHT_PAREN, 1)),
+        b'[' => Some((LEFT_BRACKET, 1)),
+        b']' => Some((RIGHT_BRACKET, 1)),
+        b'{' => Some((LEFT_BRACE, 1)),
+        b'}' => Some((RIGHT_BRACE, 1)),
+        b',' => Some((COMMA, 1)),
+        b';' => Some((SEMI_COLON, 1)),
+        b'_' => Some((UNDERSCORE, 1)),
         b':' => followed(text, COLON, b':', DOUBLE_COLON),
         b'=' => assigned(text, EQUALS, EQUALS_TO, b'>', DOUBLE_ARROW),
         b'+' => followed(text, PLUS, b'=', PLUS_ASSIGN),
@@ -207,6 +186,6 @@ pub fn longest_of(text: &[u8]) -> Longest
         b'!' => bang(text),
         b'?' => question(text),
         b'#' => hash(text),
-        _ => Longest::Nothing,
+        _ => None,
     }
 }

@@ -1,10 +1,10 @@
 -- Worked examples of the definitions, under one theorem. Assumes nothing.
+use Rattle.std.specs.Prelude.{Some}
 use mathlib.Core.Path.{◌≡◌, refl}
 use mathlib.Core.List.{[]}
 use Rattle.basis.specs.Words.{word, begins}
 use Rattle.token.specs.Tokens as Token
 use Rattle.token.specs.Keywords.{keywords, text_in}
-use Rattle.token.specs.declared.Lookup.TheVariants.{Some}
 use Rattle.keywords.specs.Lookup.{same_text, lookup_in, lookup_of}
 use Rattle.syntax.specs.Syntax.{written_as, literal_syntax_of}
 

@@ -1,4 +1,5 @@
 -- A text is a keyword or symbol exactly if a place lists it, and a token's text looks up as the token that it is written as. One computed test over the whole list says that no text and no token is listed twice. Assumes nothing.
+use Rattle.std.specs.Prelude.{None, Some}
 use Prim.Native.Nat.{ℕ, zero, suc, ◌<◌}
 use native.Mathlib.Omega.{arith}
 use mathlib.Core.Bool.{Bool, true, false}
@@ -13,8 +14,7 @@ use Rattle.basis.proofs.Cases.{true_left, true_right, pick_cases}
 use Rattle.token.specs.Keywords.{KeywordEntry, keywords, blank, entry_at, text_in}
 use Rattle.keywords.specs.Lookup.{same_text, lookup_in, lookup_of}
 use Rattle.syntax.specs.Syntax.{written_as, literal_syntax_of}
-use Rattle.token.specs.declared.Lookup.{Lookup}
-use Rattle.token.specs.declared.Lookup.TheVariants.{Some, None}
+use Rattle.token.specs.Lookups.{Lookup}
 use Rattle.token.proofs.Places.{many}
 use Rattle.keywords.proofs.Same.{same_text_lem}
 

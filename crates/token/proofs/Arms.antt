@@ -1,4 +1,5 @@
 -- A match on a token, against a definition: the compiler tests some arms' numbers one by one, and the others as runs of numbers. One computed test over the arms and the runs says that the definition has each arm's answer there. Assumes nothing.
+use Rattle.std.specs.Prelude.{None, Some}
 use Prim.Native.Nat.{ℕ, zero, suc, ◌+◌, ◌-◌, ◌≤◌, ◌<◌}
 use native.Mathlib.Omega.{arith}
 use mathlib.Core.Bool.{Bool, true, false}
@@ -13,8 +14,7 @@ use Rattle.basis.specs.Pick.{both, either, isnt}
 use Rattle.basis.proofs.Bounds.{split}
 use Rattle.basis.proofs.Cases.{true_left, true_right, not_both}
 use Rattle.token.specs.Tokens.{among_tokens}
-use Rattle.token.specs.declared.Lookup.{Lookup}
-use Rattle.token.specs.declared.Lookup.TheVariants.{Some, None}
+use Rattle.token.specs.Lookups.{Lookup}
 
 -- numbers that are tested one by one, and their answer
 pub record Arm (A : Type 0) : Type 0 where

@@ -1,3 +1,4 @@
-pub mod Tokens
 pub mod Keywords
+pub mod Lookups
 pub mod Spelt
+pub mod Tokens

@@ -3,10 +3,3 @@
 
 pub mod tokens;
 pub mod word_table;
-
-// A token, or none.
-#[derive(Clone, Copy)]
-pub enum Lookup {
-    Some(u8),
-    None,
-}

@@ -7,6 +7,7 @@ ghost use Rattle.token.specs.Spelt.{spelt_of, first_token, lengths_of, next_toke
 use crate::tokens::*;
 
 // The first token, in the order of the list, whose text begins with a byte; EOF for none.
+#[tactic(auto, unfolding(crate::specs::Keywords::keywords, basis::specs::Words::word, crate::specs::Spelt::starts, crate::specs::Spelt::first_in, crate::specs::Spelt::first_token))]
 pub fn first_of(b: u8) -> u8
     ensures { result ≡ first_token b }
 {
@@ -56,6 +57,7 @@ pub fn first_of(b: u8) -> u8
 
 // How long the texts are that begin with a byte: bit n, the rightmost being bit 0, is set if
 // one has n bytes.
+#[tactic(auto, unfolding(crate::specs::Keywords::keywords, basis::specs::Words::word, crate::specs::Tokens::among_tokens, crate::specs::Spelt::starts, crate::specs::Spelt::lengths_in, crate::specs::Spelt::bits_up_to, crate::specs::Spelt::lengths_of))]
 pub fn lengths_of(b: u8) -> u32
     ensures { result ≡ lengths_of b }
 {
@@ -104,6 +106,7 @@ pub fn lengths_of(b: u8) -> u32
 }
 
 // The next token whose text begins with the byte that a token's own begins with; EOF for none.
+#[tactic(auto, unfolding(crate::specs::Keywords::keywords, crate::specs::Keywords::text_in, basis::specs::Words::word, crate::specs::Spelt::starts, crate::specs::Spelt::first_in, crate::specs::Spelt::places_behind, crate::specs::Spelt::next_token))]
 pub fn next_of(token: u8) -> u8
     ensures { result ≡ next_token token }
 {
@@ -151,6 +154,7 @@ pub fn next_of(token: u8) -> u8
 }
 
 // A token's text as one number, a byte for two hex digits; 0 for a token without one.
+#[tactic(auto, unfolding(crate::specs::Keywords::keywords, crate::specs::Keywords::text_in, basis::specs::Words::word, crate::specs::Spelt::number_from, crate::specs::Spelt::word_number, crate::specs::Spelt::spelt_of))]
 pub fn spelt(token: u8) -> u64
     ensures { result ≡ spelt_of token }
 {

@@ -1,2 +1,3 @@
+pub mod Answer
 pub mod Ends
 pub mod Told

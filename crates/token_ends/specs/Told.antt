@@ -1,9 +1,8 @@
 -- Document 01's number and values for each case of what is recorded.
-use Rattle.std.specs.Prelude.{ℕ}
+use Rattle.std.specs.Prelude.{ℕ, Err, Ok}
 use Rattle.position.specs.Place.{none}
 use Rattle.position.specs.declared.Position.{Position}
-use Rattle.token_ends.specs.declared.Recorded.{Recorded}
-use Rattle.token_ends.specs.declared.Recorded.TheVariants.{Ends, Refused}
+use Rattle.token_ends.specs.Answer.{Recorded}
 
 -- what is told: the refusal's number, 0 for none; the last end, and the one before it
 pub record Told : Type 0 where
@@ -13,5 +12,5 @@ pub record Told : Type 0 where
 
 -- the values of each case; a refusal has no ends
 unfoldable pub told : Recorded → Told
-told (Ends e) = record { number = 0; last = e.last; previous = e.previous }
-told (Refused n) = record { number = n; last = none; previous = none }
+told (Ok e) = record { number = 0; last = e.last; previous = e.previous }
+told (Err n) = record { number = n; last = none; previous = none }

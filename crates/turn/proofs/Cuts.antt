@@ -1,4 +1,5 @@
 -- What is left of a script within the bounds, by what a turn comes to. Assumes nothing.
+use Rattle.std.specs.Prelude.{Err, Ok}
 use Prim.Native.Nat.{ℕ, ◌+◌, ◌≤◌}
 use native.Mathlib.Nat.{add-zero}
 use mathlib.Core.Bool.{Bool, true, false}
@@ -10,14 +11,12 @@ use Rattle.basis.specs.Pick.{pick}
 use Rattle.fault.specs.Faults.{no_token_room}
 use Rattle.entry.specs.Entries.{entry}
 use Rattle.literal.specs.Trace.{bytes}
-use Rattle.literal.specs.declared.Scanned.{Scanned}
-use Rattle.literal.specs.declared.Scanned.TheVariants.{Accepted, Refused}
+use Rattle.literal.specs.Scans.{Scanned}
 use Rattle.literal.proofs.Limits.{accepted_whole}
 use Rattle.reading.specs.Reading.{Reading, finishes, halts, spoils, lists, reads, kept, kept_part, Left, nothing_more, more}
 use Rattle.reading.specs.CutRun as CutRun
 use Rattle.reading.specs.CutRun.{scanned, cut_run}
 use Rattle.reading.specs.declared.Bounds.{Bounds}
-use Rattle.reading.specs.declared.Ending.TheVariants.{Stop}
 use Rattle.script.specs.Rules.{Rules}
 use Rattle.script.specs.Steps.{Step, on, last, Note, nothing, token, literal, noted, packed_of, step_of}
 use Rattle.script.specs.Script.{script_from}
@@ -52,9 +51,9 @@ module _ (b : Bounds) (n used : ℕ) where
   idle_ends (halts f) i = refl
   idle_ends (spoils from x f) i = by (scanned b used from x)
     where
-      by : (a : Scanned) → CutRun.on_scan a (λ m. nothing_more (Stop f)) ≡ nothing_more (CutRun.on_scan a (λ m. nothing_more (Stop f))).ending
-      by (Accepted e m) = refl
-      by (Refused g) = refl
+      by : (a : Scanned) → CutRun.on_scan a (λ m. nothing_more (Err f)) ≡ nothing_more (CutRun.on_scan a (λ m. nothing_more (Err f))).ending
+      by (Ok (e, m)) = refl
+      by (Err g) = refl
   idle_ends (lists k r) i = absurd i
   idle_ends (reads k x r) i = absurd i
 
@@ -68,22 +67,22 @@ module _ (b : Bounds) (n used : ℕ) where
     note_comes (token k) s = by (ltb n b.entries)
       where
         by : (free : Bool)
-            → Comes (pick free (more (kept_part k) (rest (n + 1) used)) (nothing_more (Stop (no_token_room k.start.place)))) rest [] k.values (pick free (Listed (kept_part k).entry) (Over (Stop (no_token_room k.start.place))))
+            → Comes (pick free (more (kept_part k) (rest (n + 1) used)) (nothing_more (Err (no_token_room k.start.place)))) rest [] k.values (pick free (Listed (kept_part k).entry) (Over (Err (no_token_room k.start.place))))
         by true = ap (λ (u : ℕ). more (kept_part k) (rest (n + 1) u)) (sym (add-zero used))
         by false = refl
     note_comes (literal k x) s = by (scanned b used k.start x) refl
       where
         in_room_lem : (free : Bool) (m : ℕ) → m ≡ length (bytes x)
-            → Comes (pick free (more (kept k used m (bytes x)) (rest (n + 1) (used + m))) (nothing_more (Stop (no_token_room k.start.place)))) rest (bytes x) k.values
-            (pick free (Listed (entry k.kind k.start.place used m)) (Over (Stop (no_token_room k.start.place))))
+            → Comes (pick free (more (kept k used m (bytes x)) (rest (n + 1) (used + m))) (nothing_more (Err (no_token_room k.start.place)))) rest (bytes x) k.values
+            (pick free (Listed (entry k.kind k.start.place used m)) (Over (Err (no_token_room k.start.place))))
         in_room_lem true m q = ap (λ (u : ℕ). more (kept k used m (bytes x)) (rest (n + 1) (used + u))) q
         in_room_lem false m q = refl
 
         by : (a : Scanned) → scanned b used k.start x ≡ a
             → Comes (CutRun.on_scan a (λ m. CutRun.in_room b n k.start.place (more (kept k used m (bytes x)) (rest (n + 1) (used + m))))) rest (bytes x) k.values
             (on_scanned a (λ m. listed_within b n (entry k.kind k.start.place used m)))
-        by (Refused f) h = refl
-        by (Accepted e m) h = in_room_lem (ltb n b.entries) m (accepted_whole _ _ _ x e m h).0
+        by (Err f) h = refl
+        by (Ok (e, m)) h = in_room_lem (ltb n b.entries) m (accepted_whole _ _ _ x e m h).0
 
   module _ (rules : Rules) (t book : List ℕ) (s : State) (fine : Fine s) (small : length t ≤ 16777216) (within : s.cursor.at ≤ length t) where
     abbrev step : Step

@@ -1,4 +1,6 @@
 -- A literal, by what opens it, for each way out of the functions. Assumes nothing.
+use Rattle.script.specs.Verdicts.{all_fine}
+use Rattle.std.specs.Prelude.{Err, Ok}
 use Prim.Native.Nat.{ℕ, ◌+◌, ◌-◌, ◌≤◌, ◌<◌}
 use native.Mathlib.Omega.{arith}
 use native.Mathlib.Nat.{sub-zero}
@@ -29,7 +31,6 @@ use Rattle.reading.specs.CutRun.{scanned}
 use Rattle.reading.specs.declared.Bounds.{Bounds}
 use Rattle.script.specs.Rules.{Rules, document01}
 use Rattle.script.specs.Steps.{literal_trace, verdict_of}
-use Rattle.script.specs.declared.Verdict.TheVariants as verdict
 use Rattle.turn.proofs.OneCharacter.{alone, alone_is, too_many}
 
 -- ---- the reading
@@ -70,29 +71,29 @@ module _ (t : List ℕ) (o : Opener) (from : Cursor) (q : o.terminator ≡ apost
 
 -- ---- what is to be said of it
 module _ (o : Opener) (level : ℕ) (from : Cursor) (e : End) (bs : List ℕ) where
-  pub still_open_lem : (e.on_record.times ≡ 0 → ⊥) → verdict_of o level from e bs ≡ verdict.Wrong (still_open e.cursor.place)
+  pub still_open_lem : (e.on_record.times ≡ 0 → ⊥) → verdict_of o level from e bs ≡ Err (still_open e.cursor.place)
   unfolding verdict_of
   still_open_lem n = rw (ne_eqb e.on_record.times 0 n)
 
   module _ (z : e.on_record.times ≡ 0) where
-    pub too_deep_lem : e.interpolated ≡ true → 16 ≤ level → verdict_of o level from e bs ≡ verdict.Wrong (too_deep from.place)
+    pub too_deep_lem : e.interpolated ≡ true → 16 ≤ level → verdict_of o level from e bs ≡ Err (too_deep from.place)
     unfolding verdict_of
     too_deep_lem i h = rw (eq-eqb e.on_record.times 0 z, i, le-leb 16 level h)
 
-    pub fine_piece : e.interpolated ≡ true → level < 16 → verdict_of o level from e bs ≡ verdict.Fine
+    pub fine_piece : e.interpolated ≡ true → level < 16 → verdict_of o level from e bs ≡ all_fine
     unfolding verdict_of
     fine_piece i h = rw (eq-eqb e.on_record.times 0 z, i, lt-leb 16 level h)
 
     module _ (i : e.interpolated ≡ false) where
-      pub fine_char : o.terminator ≡ apostrophe → eqb (length (chars bs)) 1 ≡ true → verdict_of o level from e bs ≡ verdict.Fine
+      pub fine_char : o.terminator ≡ apostrophe → eqb (length (chars bs)) 1 ≡ true → verdict_of o level from e bs ≡ all_fine
       unfolding verdict_of
       fine_char q y = rw (eq-eqb e.on_record.times 0 z, i, eq-eqb o.terminator apostrophe q, y)
 
-      pub no_char_lem : o.terminator ≡ apostrophe → eqb (length (chars bs)) 1 ≡ false → verdict_of o level from e bs ≡ verdict.Wrong (not_one_character from.place)
+      pub no_char_lem : o.terminator ≡ apostrophe → eqb (length (chars bs)) 1 ≡ false → verdict_of o level from e bs ≡ Err (not_one_character from.place)
       unfolding verdict_of
       no_char_lem q y = rw (eq-eqb e.on_record.times 0 z, i, eq-eqb o.terminator apostrophe q, y)
 
-      pub fine_other : (o.terminator ≡ apostrophe → ⊥) → verdict_of o level from e bs ≡ verdict.Fine
+      pub fine_other : (o.terminator ≡ apostrophe → ⊥) → verdict_of o level from e bs ≡ all_fine
       unfolding verdict_of
       fine_other n = rw (eq-eqb e.on_record.times 0 z, i, ne_eqb o.terminator apostrophe n)
 

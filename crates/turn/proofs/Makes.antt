@@ -1,4 +1,5 @@
 -- Where a run stands between two turns, and what a turn makes of that. Assumes nothing.
+use Rattle.std.specs.Prelude.{Err, Ok}
 use Prim.Native.Nat.{ℕ, ◌+◌, ◌-◌, ◌*◌, ◌≤◌, ◌<◌}
 use native.Mathlib.Omega.{arith}
 use native.Mathlib.Nat.{add-zero}
@@ -8,13 +9,11 @@ use mathlib.Core.Path.{◌≡◌, refl, sym, ap, ◌∙◌}
 use lib.Dec.{ltb}
 use Rattle.basis.specs.Pick.{pick}
 use Rattle.fault.specs.Faults.{no_token_room}
-use Rattle.reading.specs.declared.Ending.TheVariants.{Stop}
 use lib.ListN.{length}
 use lib.Seq.{sets}
 use borrow.Author.Tests.{ltb-true}
 use Rattle.literal.specs.Trace.{Trace, bytes}
-use Rattle.literal.specs.declared.Scanned.{Scanned}
-use Rattle.literal.specs.declared.Scanned.TheVariants.{Accepted, Refused}
+use Rattle.literal.specs.Scans.{Scanned}
 use Rattle.literal.proofs.Limits.{accepted_whole}
 use Rattle.reading.specs.Reading.{Token, Left, kept_part, nothing_more, more}
 use Rattle.entry.specs.Entries.{entry}
@@ -74,7 +73,7 @@ module _ (rules : Rules) (t book : List ℕ) (b : Bounds) where
 
         -- an entry, or 10
         abbrev listed : Bool → Entry → Next
-        listed free e = pick free (Listed e) (Over (Stop (no_token_room e.place)))
+        listed free e = pick free (Listed e) (Over (Err (no_token_room e.place)))
 
         token_makes : (e : Entry) (vs : List ℕ) → Small e → (free : Bool) → ltb n b.entries ≡ free → Came [] vs (listed free e) → Makes s' (used + 0) [] vs (listed free e)
         token_makes e vs z true y c = let f = ltb-true n b.entries y in (on-further, after (n + 1) 0 (omega (arith, f)) (omega arith) (omega (arith, stands.room)) (omega arith), c, z, f)
@@ -84,9 +83,9 @@ module _ (rules : Rules) (t book : List ℕ) (b : Bounds) where
             → (a : Scanned) → scanned b used k.start x ≡ a → (free : Bool) → ltb n b.entries ≡ free
             → Came (bytes x) k.values (on_scanned a (λ m. listed free (entry k.kind k.start.place used m)))
             → Makes s' (used + length (bytes x)) (bytes x) k.values (on_scanned a (λ m. listed free (entry k.kind k.start.place used m)))
-        literal_makes k x q (Refused f) h free y c = c
-        literal_makes k x q (Accepted e m) h false y c = c
-        literal_makes k x q (Accepted e m) h true y c =
+        literal_makes k x q (Err f) h free y c = c
+        literal_makes k x q (Ok (e, m)) h false y c = c
+        literal_makes k x q (Ok (e, m)) h true y c =
             let f = ltb-true n b.entries y in
             let w = accepted_whole (full k.start) b.limit (b.literals - used) x e m h in
             (on-further, after (n + 1) (length (bytes x)) (omega (arith, f)) (omega arith) (omega (arith, w.0, w.1, stands.room)) q, c, (omega (arith, stands.few), omega (arith, w.0)), f)

@@ -1,4 +1,5 @@
 -- Whether a well-formed text is one character: it is as long as the first character in it. Assumes nothing.
+use Rattle.std.specs.Prelude.{None, Some}
 use Prim.Native.Nat.{ℕ, ◌+◌, ◌≤◌, ◌<◌}
 use native.Mathlib.Omega.{arith}
 use mathlib.Core.Bool.{Bool, true, false}
@@ -10,8 +11,7 @@ use borrow.Author.Tests.{eq-eqb, ne_eqb}
 use Rattle.basis.proofs.Cases.{both_left}
 use Rattle.utf8.specs.Table.{Ch, codes, chars, well, look}
 use Rattle.utf8.specs.Encode.{is_scalar, encode, encode_all, all_scalar}
-use Rattle.utf8.specs.declared.Look.{Look}
-use Rattle.utf8.specs.declared.Look.TheVariants.{Char, End}
+use Rattle.utf8.specs.Looks.{Look}
 use Rattle.utf8.proofs.Encodes.{size_bounds}
 use Rattle.utf8.proofs.Finds.{look_encode}
 use Rattle.utf8.proofs.Laws.{look_width}
@@ -19,8 +19,8 @@ use Rattle.utf8.proofs.Unicode.{well_encoded}
 
 -- a look at a text of n bytes finds them all in one character
 abbrev pub alone : Look → ℕ → Bool
-alone (Char c w) n = eqb w n
-alone End n = false
+alone (Some (c, w)) n = eqb w n
+alone None n = false
 
 many : (c : ℕ) (cs : List ℕ) → 0 < length (encode_all (c ∷ cs))
 unfolding encode_all
@@ -41,8 +41,8 @@ unfolding encode_all
 alone_by [] zs y = by (look zs) refl
   where
     by : (x : Look) → look zs ≡ x → alone x 0 ≡ false
-    by (Char c w) e = ne_eqb w 0 (λ q. omega (arith, (look_width zs e).0))
-    by End e = refl
+    by (Some (c, w)) e = ne_eqb w 0 (λ q. omega (arith, (look_width zs e).0))
+    by None e = refl
 alone_by (c ∷ cs) zs y = rw (append_assoc (encode c) (encode_all cs) zs, look_encode c (encode_all cs ++ zs) (first_scalar c cs y), length-append (encode c) (encode_all cs)) (only c cs)
 
 one_small : (c : ℕ) → length (encode_all (c ∷ [])) ≤ 4

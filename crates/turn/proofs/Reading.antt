@@ -1,4 +1,6 @@
 -- The turn of a literal, for each way out of the functions. Assumes nothing.
+use Rattle.literal.specs.Scans.{accepted_as}
+use Rattle.std.specs.Prelude.{Err, Ok}
 use Prim.Native.Nat.{ℕ, ◌-◌, ◌≤◌, ◌<◌}
 use mathlib.Core.Bool.{Bool, true, false}
 use mathlib.Core.List.{List}
@@ -13,30 +15,27 @@ use Rattle.chars.specs.declared.cursor.Cursor.{Cursor}
 use Rattle.literal.specs.Answers.{full}
 use Rattle.literal.specs.declared.End.{End}
 use Rattle.literal.specs.declared.Refusal.{Refusal}
-use Rattle.literal.specs.declared.Scanned.TheVariants.{Accepted, Refused}
 use Rattle.literal.specs.Trace.{Trace, bytes, final, Outcome, good, bad}
 use Rattle.literal.proofs.Limits.{accepted_whole}
 use Rattle.literal.proofs.Alike.{alike_accepted, alike_refused}
 use Rattle.find.specs.declared.Opener.{Opener}
 use Rattle.reading.specs.CutRun.{scanned, cut_run}
 use Rattle.reading.specs.declared.Bounds.{Bounds}
-use Rattle.reading.specs.declared.Ending.TheVariants.{Stop}
 use Rattle.script.specs.Rules.{Rules}
 use Rattle.script.specs.States.{behind, behind_of}
 use Rattle.script.specs.Steps.{Step, start_of, literal_trace, verdict_of, listed_of, on_verdict, on_end, literal_step}
 use Rattle.script.specs.declared.State.{State}
-use Rattle.script.specs.declared.Verdict.{Verdict}
-use Rattle.script.specs.declared.Verdict.TheVariants as verdict
+use Rattle.script.specs.Verdicts.{Verdict, all_fine}
 use Rattle.script.proofs.Ahead.{listed_fits}
 use Rattle.turn.specs.Turns.{step_next, step_state, step_bytes, Went, went, turned, turn_of, literals_then, literals_behind, Leads, listed_as}
 use Rattle.turn.specs.declared.Next.TheVariants.{Over}
 
 -- a run that is over
 abbrev pub stopped : State → ℕ → Fault → Went
-stopped s used f = went s used (Over (Stop f))
+stopped s used f = went s used (Over (Err f))
 
 -- what is over changes nothing
-module _ (b : Bounds) (n used : ℕ) (s : State) (x : Step) {f : Fault} (h : step_next b n used x ≡ Over (Stop f)) where
+module _ (b : Bounds) (n used : ℕ) (s : State) (x : Step) {f : Fault} (h : step_next b n used x ≡ Over (Err f)) where
   pub over_turn : turn_of b n used s x ≡ stopped s used f
   unfolding turn_of
   over_turn = ap (turned s used x) h
@@ -53,41 +52,41 @@ module _ (b : Bounds) (n used : ℕ) (rules : Rules) (t : List ℕ) (o : Opener)
   tr = literal_trace rules t o from
 
   -- a run's scan stands at the literal's start, and so tells what the scan from behind its opener tells
-  scanned_accepted : {e : End} {m : ℕ} → scanned b used from tr ≡ Accepted e m → scanned b used (start_of from s) tr ≡ Accepted e m
+  scanned_accepted : {e : End} {m : ℕ} → scanned b used from tr ≡ accepted_as e m → scanned b used (start_of from s) tr ≡ accepted_as e m
   scanned_accepted h = alike_accepted (full from) (full (start_of from s)) refl b.limit (b.literals - used) tr h
 
-  pub refused_next : {f : Refusal} → scanned b used from tr ≡ Refused f → step_next b n used x ≡ Over (Stop f.fault)
+  pub refused_next : {f : Refusal} → scanned b used from tr ≡ Err f → step_next b n used x ≡ Over (Err f.fault)
   unfolding literal_step listed_of step_next cut_run
   refused_next {f} h =
       let z = alike_refused (full from) (full (start_of from s)) refl b.limit (b.literals - used) tr h in
-      by z.1 (final tr) ∙ ap (λ (g : Fault). Over (Stop g)) z.2
+      by z.1 (final tr) ∙ ap (λ (g : Fault). Over (Err g)) z.2
     where
-      spoiled : {g : Refusal} → scanned b used (start_of from s) tr ≡ Refused g → (e : End) (v : Verdict) → step_next b n used (on_verdict o from tr e s v) ≡ Over (Stop g.fault)
-      spoiled {g} q e verdict.Fine = pick_cases (λ (y : Step). step_next b n used y ≡ Over (Stop g.fault)) e.interpolated _ _ (λ i. rw q) (λ i. rw q)
-      spoiled q e (verdict.Wrong w) = rw q
+      spoiled : {g : Refusal} → scanned b used (start_of from s) tr ≡ Err g → (e : End) (v : Verdict) → step_next b n used (on_verdict o from tr e s v) ≡ Over (Err g.fault)
+      spoiled {g} q e (Ok u) = pick_cases (λ (y : Step). step_next b n used y ≡ Over (Err g.fault)) e.interpolated _ _ (λ i. rw q) (λ i. rw q)
+      spoiled q e (Err w) = rw q
 
-      by : {g : Refusal} → scanned b used (start_of from s) tr ≡ Refused g → (y : Outcome) → step_next b n used (on_end o from tr s y) ≡ Over (Stop g.fault)
+      by : {g : Refusal} → scanned b used (start_of from s) tr ≡ Err g → (y : Outcome) → step_next b n used (on_end o from tr s y) ≡ Over (Err g.fault)
       by q (bad w) = rw q
       by q (good e) = spoiled q e (verdict_of o s.level from e (bytes tr))
 
-  module _ {e : End} {m : ℕ} (h : scanned b used from tr ≡ Accepted e m) where
+  module _ {e : End} {m : ℕ} (h : scanned b used from tr ≡ accepted_as e m) where
     pub whole : (m ≡ length (bytes tr)) × (m ≤ b.literals - used) × (final tr ≡ good e)
     whole = accepted_whole (full from) b.limit (b.literals - used) tr e m h
 
-    pub wrong_next : {f : Fault} → verdict_of o s.level from e (bytes tr) ≡ verdict.Wrong f → step_next b n used x ≡ Over (Stop f)
+    pub wrong_next : {f : Fault} → verdict_of o s.level from e (bytes tr) ≡ Err f → step_next b n used x ≡ Over (Err f)
     unfolding literal_step step_next cut_run
     wrong_next q = rw (whole.2, q, scanned_accepted h)
 
-    module _ (z : verdict_of o s.level from e (bytes tr) ≡ verdict.Fine) where
+    module _ (z : verdict_of o s.level from e (bytes tr) ≡ all_fine) where
       fine : x ≡ listed_of o from tr e s
       unfolding literal_step
       fine = rw (whole.2, z)
 
-      pub full_next : b.entries ≤ n → step_next b n used x ≡ Over (Stop (no_token_room from.place))
+      pub full_next : b.entries ≤ n → step_next b n used x ≡ Over (Err (no_token_room from.place))
       unfolding listed_of step_next
       full_next l =
           ap (step_next b n used) fine
-          ∙ pick_cases (λ (y : Step). step_next b n used y ≡ Over (Stop (no_token_room from.place))) e.interpolated _ _
+          ∙ pick_cases (λ (y : Step). step_next b n used y ≡ Over (Err (no_token_room from.place))) e.interpolated _ _
           (λ i. rw (scanned_accepted h, le-ltb n b.entries l)) (λ i. rw (scanned_accepted h, le-ltb n b.entries l))
 
       module _ (y : n < b.entries) where

@@ -1,4 +1,5 @@
 -- The turn of what is no literal, and which step it is, for each way out of the functions. Assumes nothing.
+use Rattle.std.specs.Prelude.{Err, Ok}
 use Prim.Native.Nat.{ℕ, ◌-◌, ◌≤◌, ◌<◌}
 use native.Mathlib.Nat.{add-zero}
 use mathlib.Core.Bool.{Bool, true, false}
@@ -20,7 +21,6 @@ use Rattle.find.proofs.Ahead.{find_ahead}
 use Rattle.reading.specs.Reading.{halts}
 use Rattle.reading.specs.CutRun.{cut_run}
 use Rattle.reading.specs.declared.Bounds.{Bounds}
-use Rattle.reading.specs.declared.Ending.TheVariants.{End, Stop}
 use Rattle.script.specs.Rules.{Rules}
 use Rattle.script.specs.States.{moved_to, behind}
 use Rattle.script.specs.Steps.{on, last, nothing, literal_step, part_step, end_step, on_found, step_of}
@@ -47,7 +47,7 @@ module _ (b : Bounds) (n used : ℕ) (s : State) where
     unfolding literals_behind step_next step_bytes
     part_kept old = by (ltb n b.entries)
       where
-        by : (f : Bool) → old ≡ literals_then old used (part_step k w to s) (pick f (Listed listing) (Over (Stop (no_token_room (advanced s.cursor.place)))))
+        by : (f : Bool) → old ≡ literals_then old used (part_step k w to s) (pick f (Listed listing) (Over (Err (no_token_room (advanced s.cursor.place)))))
         by true = refl
         by false = refl
 
@@ -72,7 +72,7 @@ module _ (b : Bounds) (n used : ℕ) (s : State) where
     wrong_kept old = refl
 
   -- ---- the script's end
-  pub end_here : s.level ≡ 0 → went s used (Over (End s.cursor.place)) ≡ turn_of b n used s (end_step s)
+  pub end_here : s.level ≡ 0 → went s used (Over (Ok s.cursor.place)) ≡ turn_of b n used s (end_step s)
   unfolding end_step turn_of step_next cut_run
   end_here q = rw (eq-eqb s.level 0 q)
 

@@ -1,11 +1,11 @@
 -- What is kept aside of a string literal as it is measured: a short body, so that it need not be read again.
+use Rattle.literal.specs.Scans.{accepted_as}
 use Rattle.std.specs.Prelude.{ℕ, ◌≤◌, List, ◌≡◌, length}
 use Rattle.basis.specs.Types.{Bytes, Text}
 use Rattle.basis.specs.Store.{over}
 use Rattle.classes.specs.Marks.{hash}
 use Rattle.chars.specs.declared.cursor.Cursor.{Cursor}
 use Rattle.literal.specs.Trace.{bytes}
-use Rattle.literal.specs.declared.Scanned.TheVariants.{Accepted}
 use Rattle.find.specs.declared.Opener.{Opener}
 use Rattle.reading.specs.CutRun.{scanned}
 use Rattle.script.specs.Rules.{document01}
@@ -26,5 +26,5 @@ pub record Ready (t : List ℕ) (room : Room) (read : Read) (aside literals : Li
   pub inside : read.from.at ≤ length t
   pub lent : room.bounds.literals ≡ length literals
   pub used : room.used ≤ length literals
-  pub accepted : scanned room.bounds room.used read.from (literal_trace document01 t read.opener read.from) ≡ Accepted read.end read.len
+  pub accepted : scanned room.bounds room.used read.from (literal_trace document01 t read.opener read.from) ≡ accepted_as read.end read.len
   pub kept : Aside t read.opener read.from aside

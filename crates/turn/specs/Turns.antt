@@ -1,5 +1,5 @@
 -- One turn of a run within its bounds: document 01, "9 goes before 12 and 13, these before 10; 10 only for a token read without fault. Entries and literal bytes of earlier tokens stay; beyond them nothing is written".
-use Rattle.std.specs.Prelude.{ℕ, ◌+◌, Bool, true, false, List, [], ◌≡◌, ltb, length}
+use Rattle.std.specs.Prelude.{ℕ, ◌+◌, Bool, true, false, List, [], ◌≡◌, ltb, length, Err, Ok}
 use Rattle.std.proofs.lemmas.List.Edits.{sets}
 use Rattle.basis.specs.Pick.{pick}
 use Rattle.position.specs.declared.Position.{Position}
@@ -8,13 +8,11 @@ use Rattle.entry.specs.Kinds as Kind
 use Rattle.entry.specs.Entries.{entry}
 use Rattle.entry.specs.declared.Entry.{Entry}
 use Rattle.literal.specs.declared.End.{End}
-use Rattle.literal.specs.declared.Scanned.{Scanned}
-use Rattle.literal.specs.declared.Scanned.TheVariants.{Accepted, Refused}
+use Rattle.literal.specs.Scans.{Scanned}
 use Rattle.find.specs.declared.Opener.{Opener}
 use Rattle.reading.specs.Reading.{kept_part}
 use Rattle.reading.specs.CutRun.{scanned, cut_run}
 use Rattle.reading.specs.declared.Bounds.{Bounds}
-use Rattle.reading.specs.declared.Ending.TheVariants.{Stop}
 use Rattle.chars.specs.declared.cursor.Cursor.{Cursor}
 use Rattle.token.specs.Tokens as Tokens
 use Rattle.script.specs.Counts.{passed_of}
@@ -28,12 +26,12 @@ use Rattle.turn.specs.declared.Turned.{Turned}
 
 -- an entry, where there is room for one more than n; else 10 at the token's place
 abbrev pub listed_within : Bounds → ℕ → Entry → Next
-listed_within b n e = pick (ltb n b.entries) (Listed e) (Over (Stop (no_token_room e.place)))
+listed_within b n e = pick (ltb n b.entries) (Listed e) (Over (Err (no_token_room e.place)))
 
 -- a literal that is accepted goes on with its length; one that is refused stops the run
 abbrev pub on_scanned : Scanned → (ℕ → Next) → Next
-on_scanned (Accepted e m) next = next m
-on_scanned (Refused f) next = Over (Stop f.fault)
+on_scanned (Ok (e, m)) next = next m
+on_scanned (Err f) next = Over (Err f.fault)
 
 -- what a step comes to, where n entries are listed and so many literal bytes used
 unfoldable pub step_next : Bounds → ℕ → ℕ → Step → Next

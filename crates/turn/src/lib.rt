@@ -1,7 +1,7 @@
 // One turn of a run over a script, within its bounds.
 #![tactic(auto)]
 
-ghost use Rattle.std.specs.Prelude.{◌≡◌, true, false, ◌+◌, ◌≤◌, eqb, length};
+ghost use Rattle.std.specs.Prelude.{◌≡◌, true, false, ◌+◌, ◌≤◌, eqb, length, Err};
 ghost use Rattle.std.proofs.lemmas.List.Edits.{sets};
 ghost use Rattle.utf8.specs.Table.{chars};
 ghost use Rattle.classes.specs.Marks.{hash, apostrophe};
@@ -10,7 +10,6 @@ ghost use Rattle.literal.specs.Trace.{bytes};
 ghost use Rattle.literal.specs.Answers.{full};
 ghost use Rattle.literal.specs.Cut.{cut};
 ghost use Rattle.string.specs.Kept.{BodyKept};
-ghost use Rattle.reading.specs.declared.Ending.TheVariants.{Stop};
 ghost use Rattle.token.specs.Tokens.{EOF};
 ghost use Rattle.fault.specs.Faults.{fault};
 ghost use Rattle.script.specs.Rules.{document01};
@@ -30,7 +29,6 @@ use position::Position;
 use reading::{Bounds, Ending};
 use script::Verdict;
 use token::tokens;
-use utf8::Look;
 
 // How many bytes of a body are kept aside as it is measured, so that most literals are read once.
 const ASIDE: usize = 128;
@@ -97,7 +95,7 @@ fn is_one_character(aside: &[u8], text: &[u8], read: Read) -> bool
     if 4 < read.len {
         return false;
     }
-    let Look::Char(_, width) = utf8::look_at(aside, 0) else {
+    let Some((_, width)) = utf8::look_at(aside, 0) else {
         return false;
     };
     width == read.len
@@ -110,21 +108,21 @@ fn verdict(aside: &[u8], text: &[u8], read: Read, level: usize) -> Verdict
 {
     let start = read.from.place;
     if read.end.on_record.times != 0 {
-        return Verdict::Wrong(Fault::at(Fault::STILL_OPEN, read.end.cursor.place));
+        return Err(Fault::at(Fault::STILL_OPEN, read.end.cursor.place));
     }
     if read.end.interpolated {
         if 16 <= level {
-            return Verdict::Wrong(Fault::at(Fault::TOO_DEEP, start));
+            return Err(Fault::at(Fault::TOO_DEEP, start));
         }
-        return Verdict::Fine;
+        return Ok(());
     }
     if read.opener.terminator == marks::APOSTROPHE {
         if is_one_character(aside, text, read) {
-            return Verdict::Fine;
+            return Ok(());
         }
-        return Verdict::Wrong(Fault::at(Fault::NOT_ONE_CHARACTER, start));
+        return Err(Fault::at(Fault::NOT_ONE_CHARACTER, start));
     }
-    Verdict::Fine
+    Ok(())
 }
 
 // Writes the body of a literal that is listed, behind the literal bytes that are used: a short string from aside, a long one by the
@@ -144,7 +142,7 @@ fn write(aside: &[u8], text: &[u8], read: Read, room: Room, literals: &mut [u8])
         lent::copy(&aside[0..len], literals, used);
         return;
     }
-    string::scan::scan(
+    let _ = string::scan::scan(
         text,
         from,
         read.opener.terminator,
@@ -169,9 +167,9 @@ fn over(to: Cursor, used: usize, ending: Ending) -> Turned
 
 // It stops with a fault that is about no part of the script.
 fn stop(to: Cursor, used: usize, number: u8, place: Position) -> Turned
-    ensures { result ≡ record { piece = false; token = EOF; to = to; used = used; next = Over (Stop (fault number place)) } }
+    ensures { result ≡ record { piece = false; token = EOF; to = to; used = used; next = Over (Err (fault number place)) } }
 {
-    over(to, used, Ending::Stop(Fault::at(number, place)))
+    over(to, used, Err(Fault::at(number, place)))
 }
 
 // A literal that is listed: a piece of text that `${` ends opens an interpolation.
@@ -227,8 +225,8 @@ fn accepted(
     let after = used + read.len;
     let verdict = verdict(aside, text, read, level);
     match verdict {
-        Verdict::Wrong(fault) => over(from, used, Ending::Stop(fault)),
-        Verdict::Fine => {
+        Err(fault) => over(from, used, Err(fault)),
+        Ok(()) => {
             if room.listed < room.bounds.entries {
                 write(aside, text, read, room, literals);
                 return list(read, used, after);
@@ -252,17 +250,18 @@ fn literal(
 {
     let mut aside: [u8; 128] = [0; 128];
     let free = literals.len() - room.used;
-    let scanned = measure(text, opener, from, room.bounds.limit, free, &mut aside);
-    let Scanned::Accepted(end, len) = scanned else {
-        return over(from, room.used, Ending::Stop(scanned.fault()));
-    };
-    let read = Read {
-        opener,
-        from,
-        end,
-        len,
-    };
-    accepted(&aside, text, read, level, room, literals)
+    match measure(text, opener, from, room.bounds.limit, free, &mut aside) {
+        Ok((end, len)) => {
+            let read = Read {
+                opener,
+                from,
+                end,
+                len,
+            };
+            accepted(&aside, text, read, level, room, literals)
+        }
+        Err(refusal) => over(from, room.used, Err(refusal.fault)),
+    }
 }
 
 // A token that is a part of the script, from a cursor up to another.
@@ -297,7 +296,7 @@ fn end(here: Cursor, level: usize, room: Room) -> Turned
 {
     let place = here.place;
     if level == 0 {
-        return over(here, room.used, Ending::End(place));
+        return over(here, room.used, Ok(place));
     }
     stop(here, room.used, Fault::STILL_OPEN, place)
 }
@@ -334,7 +333,7 @@ pub fn turn(
         },
         Found::Part(to, kind, token) => part(kind, token, to, here, room),
         Found::Literal(from, opener) => literal(text, opener, from, level, room, literals),
-        Found::Wrong(fault) => over(here, room.used, Ending::Stop(fault)),
+        Found::Wrong(fault) => over(here, room.used, Err(fault)),
         Found::End => end(here, level, room),
     }
 }

@@ -6,56 +6,32 @@ ghost use Rattle.std.specs.Prelude.{◌≤◌};
 
 use std::io;
 
-// What is listed.
-#[derive(Clone, Copy)]
-enum Property {
-    WhiteSpace,
-    Surrogate,
-}
+// The one behind the last code point.
+const END: u32 = 0x110000;
 
-fn has(property: Property, c: u32) -> bool {
-    match property {
-        Property::WhiteSpace => white::is_white(c),
-        Property::Surrogate => !utf8::is_scalar(c),
-    }
-}
-
-// The first code point from `from` on that has the property, or that has it not; 110000 where none does.
-fn next(property: Property, wanted: bool, from: u32) -> u32
-    requires { from ≤ 0x110000 }
+// The first code point from `from` on that is wanted, or the end.
+fn next<F: Fn(u32) -> bool>(from: u32, wanted: F) -> u32
+    requires callable { F.IsAlwaysCallable wanted }
+    requires within { from ≤ 0x110000 }
     ensures { (from ≤ result) × (result ≤ 0x110000) }
 {
-    let mut c = from;
-    while c < 0x110000 {
-        if has(property, c) == wanted {
-            return c;
-        }
-        c += 1;
-    }
-    c
+    (from..END).find(|&c| wanted(c)).unwrap_or(END)
 }
 
-fn show(rt: &impl Print, first: u32, last: u32, name: &[u8]) -> io::Result<()> {
-    print!(rt; "{first:04x}..{last:04x} ; ")?;
-    rt.write_all(name)?;
-    rt.write_all(b"\n")
-}
-
-fn list(rt: &impl Print, property: Property, name: &[u8]) -> io::Result<()> {
-    let mut at = 0;
-    while at < 0x110000 {
-        let first = next(property, true, at);
-        if 0x110000 <= first {
-            return Ok(());
-        }
-        let end = next(property, false, first + 1);
-        show(rt, first, end - 1, name)?;
-        at = end;
+// Writes each range of code points that have the property of this name.
+fn list<F: Fn(u32) -> bool>(rt: &impl Print, name: &str, has: F) -> io::Result<()>
+    requires { F.IsAlwaysCallable has }
+{
+    let mut first = next(0, &has);
+    while first < END {
+        let end = next(first + 1, |c| !has(c));
+        println!(rt; "{first:04x}..{:04x} ; {name}", end - 1)?;
+        first = next(end, &has);
     }
     Ok(())
 }
 
 fn main(rt: HostRuntime) -> io::Result<()> {
-    list(&rt, Property::WhiteSpace, b"White_Space")?;
-    list(&rt, Property::Surrogate, b"Surrogate")
+    list(&rt, "White_Space", white::is_white)?;
+    list(&rt, "Surrogate", |c| !utf8::is_scalar(c))
 }

@@ -1,5 +1,6 @@
 -- A character by its bits: what the code joins, byte after byte, is the character that Table 3-7 gives, since Table 3-6 gives those bytes for it.
 -- Assumes nothing.
+use Rattle.std.specs.Prelude.{None, Some}
 use Prim.Native.Nat.{ℕ, zero, suc, ◌+◌, ◌-◌, ◌*◌, ◌%◌, ◌^◌, ◌≤◌, ◌<◌}
 use native.Mathlib.Nat.{pow-suc, pow-le-pow_right}
 use native.Mathlib.Numerals.{add-one}
@@ -19,8 +20,7 @@ use Rattle.basis.proofs.Cases.{not_both}
 use Rattle.utf8.specs.Table.{◌‥◌, within, look, look_at}
 use Rattle.utf8.specs.Encode.{is_scalar, encode}
 use Rattle.utf8.specs.Bits.{bits_of, joined_of, whole_of, sized_of}
-use Rattle.utf8.specs.declared.Look.{Look}
-use Rattle.utf8.specs.declared.Look.TheVariants.{Char, End}
+use Rattle.utf8.specs.Looks.{Look, char_found}
 use Rattle.utf8.proofs.Encodes.{scalar_low, scalar_small, enc1}
 use Rattle.utf8.proofs.Ranges.{within_low, within_high, is_within}
 use Rattle.utf8.proofs.Digits.{shift, tails, base, least, past, encode_by, tails_length}
@@ -122,18 +122,18 @@ module _ (a : ℕ) (bs : List ℕ) where
     read_width = omega (arith, tails_length m c, ap length (encode_by m c h g), r.width)
 
   -- no character is read
-  none_read : ((c w : ℕ) → Reads (a ∷ bs) c w → ⊥) → look (a ∷ bs) ≡ End
+  none_read : ((c w : ℕ) → Reads (a ∷ bs) c w → ⊥) → look (a ∷ bs) ≡ None
   none_read never = go (look (a ∷ bs)) refl
     where
-      go : (x : Look) → look (a ∷ bs) ≡ x → x ≡ End
-      go (Char c w) e = absurd (never c w (look_reads (a ∷ bs) e))
-      go End e = refl
+      go : (x : Look) → look (a ∷ bs) ≡ x → x ≡ None
+      go (Some (c, w)) e = absurd (never c w (look_reads (a ∷ bs) e))
+      go None e = refl
 
   -- no character begins with 80..BF, nor with F8 and above
-  pub look_inside : 0x80 ≤ a → a < 0xC0 → look (a ∷ bs) ≡ End
+  pub look_inside : 0x80 ≤ a → a < 0xC0 → look (a ∷ bs) ≡ None
   look_inside h g = none_read (λ c w r. not_both (is_within (0x80 ‥ 0xBF) a h (omega arith)) r.opens)
 
-  pub look_beyond : 0xF8 ≤ a → look (a ∷ bs) ≡ End
+  pub look_beyond : 0xF8 ≤ a → look (a ∷ bs) ≡ None
   look_beyond h = none_read beyond
     where
       past_top : (m : ℕ) → a < top m → ⊥
@@ -151,13 +151,13 @@ module _ (a : ℕ) (bs : List ℕ) where
 
   module _ (n : ℕ) (p : 0 < n) (k : 0x80 ≤ a) (z : 0 < least n) (l : base n ≤ a) (g : a < top n) where
     -- what the bits make is read
-    bits_read : (c : ℕ) → joined_of n (a - base n) bs ≡ c → least n ≤ c → is_scalar c ≡ true → look (a ∷ bs) ≡ Char c (n + 1)
+    bits_read : (c : ℕ) → joined_of n (a - base n) bs ≡ c → least n ≤ c → is_scalar c ≡ true → look (a ∷ bs) ≡ char_found c (n + 1)
     bits_read c e h s =
         let d = joined_digits c (omega arith) n (a - base n) bs e in
         let f : base n + shift n c ≡ a = omega (arith, d.0) in
         let j = encode_by n c h (few_bits n c p (omega arith) s) in
         let q : a ∷ bs ≡ encode c ++ drop n bs = rw (j, f) (ap (λ (x : List ℕ). a ∷ x) d.1) in
-        ap look q ∙ look_encode c (drop n bs) s ∙ ap (λ (w : ℕ). Char c w) (omega (arith, tails_length n c, ap length j))
+        ap look q ∙ look_encode c (drop n bs) s ∙ ap (λ (w : ℕ). char_found c w) (omega (arith, tails_length n c, ap length j))
 
     -- what is read, the bits make
     read_bits : (c w : ℕ) → Reads (a ∷ bs) c w → (joined_of n (a - base n) bs ≡ c) × (least n ≤ c) × (n + 1 ≡ w)
@@ -181,28 +181,28 @@ module _ (a : ℕ) (bs : List ℕ) where
         c : ℕ
         c = joined_of n (a - base n) bs
 
-        none : (s t : Bool) → leb (least n) c ≡ s → is_scalar c ≡ t → look (a ∷ bs) ≡ End → pick s (pick t (Char c (n + 1)) End) End ≡ End
+        none : (s t : Bool) → leb (least n) c ≡ s → is_scalar c ≡ t → look (a ∷ bs) ≡ None → pick s (pick t (char_found c (n + 1)) None) None ≡ None
         none true true q y e = no_end (sym e ∙ bits_read c refl (leb-true (least n) c q) y)
         none true false q y e = refl
         none false t q y e = refl
 
         go : (x : Look) → look (a ∷ bs) ≡ x → whole_of (least n) (n + 1) c ≡ x
-        go (Char d w) e =
+        go (Some (d, w)) e =
             let r = look_reads (a ∷ bs) e in
             let i = read_bits d w r in
             rw (i.0, le-leb (least n) d i.1, r.scalar, i.2)
-        go End e = none (leb (least n) c) (is_scalar c) refl refl e
+        go None e = none (leb (least n) c) (is_scalar c) refl refl e
 
 -- ---- a look at an offset
 module _ (s : List ℕ) (at : ℕ) (h : at < length s) where
   -- a byte below 80 is a character of one byte
-  pub look_ascii : (w : ℕ) → get_or s at 0 < 0x80 → w ≡ 1 → Char (get_or s at 0) w ≡ look_at s at
+  pub look_ascii : (w : ℕ) → get_or s at 0 < 0x80 → w ≡ 1 → char_found (get_or s at 0) w ≡ look_at s at
   unfolding look_at
   look_ascii w g e =
       rw (e, here s at h)
       (sym (ap (λ (l : List ℕ). look (l ++ drop (at + 1) s)) (sym (enc1 (get_or s at 0) g))
       ∙ look_encode (get_or s at 0) (drop (at + 1) s) (scalar_low (get_or s at 0) (omega arith))
-      ∙ ap (λ (l : List ℕ). Char (get_or s at 0) (length l)) (enc1 (get_or s at 0) g)))
+      ∙ ap (λ (l : List ℕ). char_found (get_or s at 0) (length l)) (enc1 (get_or s at 0) g)))
 
   -- any other is the first of a longer one
   pub look_here : look (get_or s at 0 ∷ drop (at + 1) s) ≡ look_at s at

@@ -1,35 +1,36 @@
 -- What a row of Table 3-7 reads is a scalar value, and what it read is that value's encoding.
 -- Assumes nothing.
+use Rattle.std.specs.Prelude.{None}
 use Prim.Native.Nat.{ℕ, suc, ◌+◌, ◌-◌, ◌*◌, ◌%◌, ◌≤◌, ◌<◌}
 use native.Mathlib.Omega.{arith}
 use mathlib.Core.Bool.{Bool, true, false}
 use mathlib.Core.List.{List, [], ◌∷◌, ◌++◌}
 use mathlib.Core.Logic.{⊎_elim}
-use mathlib.Core.Path.{◌≡◌, refl, ap}
+use mathlib.Core.Path.{◌≡◌, refl, ap, sym}
 use lib.ListN.{length, drop, get_or}
 use Rattle.basis.specs.Pick.{pick}
 use Rattle.basis.proofs.Bounds.{split}
 use Rattle.utf8.specs.Table.{Range, ◌‥◌, within, TableRow, row, table37, further, look_in, look}
 use Rattle.utf8.specs.Encode.{is_scalar, encode}
-use Rattle.utf8.specs.declared.Look.{Look}
-use Rattle.utf8.specs.declared.Look.TheVariants.{Char, End}
+use Rattle.utf8.specs.Looks.{Look, char_found}
 use Rattle.utf8.proofs.Encodes.{scalar_low, scalar_high}
 use Rattle.utf8.proofs.Ranges.{within_low, within_high, is_below, is_above}
+use Rattle.std.proofs.lemmas.Option.{some_pair_parts}
 use Rattle.utf8.proofs.Digits.{shift, tails, base, encode_by, tails_length, tails_inner}
 use Rattle.utf8.proofs.Rows.{on_low, on_high, lows, highs, Byte, Bytes, Fair, FairRows, fair}
 
 -- ---- an answer taken apart
-pub no_end : {A : Type 0} {c w : ℕ} → End ≡ Char c w → A
+pub no_end : {A : Type 0} {c w : ℕ} → None ≡ char_found c w → A
 no_end e = absurd (let z : ◌≡◌ {A = ℕ} 0 1 = cc in omega arith)
 
-code_is : {c w n k : ℕ} → Char n k ≡ Char c w → c ≡ n
-code_is e = cc
+code_is : {c w n k : ℕ} → char_found n k ≡ char_found c w → c ≡ n
+code_is {c} {w} {n} {k} e = sym (some_pair_parts n c k w e).0
 
-width_is : {c w n k : ℕ} → Char n k ≡ Char c w → w ≡ k
-width_is e = cc
+width_is : {c w n k : ℕ} → char_found n k ≡ char_found c w → w ≡ k
+width_is {c} {w} {n} {k} e = sym (some_pair_parts n c k w e).1
 
 -- a character that is found only if a test holds
-chosen : (t : Bool) {x : Look} {c w : ℕ} → pick t x End ≡ Char c w → (t ≡ true) × (x ≡ Char c w)
+chosen : (t : Bool) {x : Look} {c w : ℕ} → pick t x None ≡ char_found c w → (t ≡ true) × (x ≡ char_found c w)
 chosen true e = (refl, e)
 chosen false e = no_end e
 
@@ -61,7 +62,7 @@ module _ (s : Range) (v p u b : ℕ) (k : Byte p u s) (l : s.low ≤ b) (g : b �
         width = i.width;
       }
 
-tail_read : (rs : List Range) (f w v p u : ℕ) (bs : List ℕ) {c w' : ℕ} → Bytes p u rs → f ≡ lows p rs → v + p ≤ u → further f w rs v bs ≡ Char c w'
+tail_read : (rs : List Range) (f w v p u : ℕ) (bs : List ℕ) {c w' : ℕ} → Bytes p u rs → f ≡ lows p rs → v + p ≤ u → further f w rs v bs ≡ char_found c w'
     → Tail f w (length rs) (v + p) (highs u rs) bs c w'
 tail_read [] f w v p u bs k e h z =
     let q = code_is z in
@@ -93,7 +94,7 @@ module _ {b n from to : ℕ} {r : Range} {rs : List Range} (f : Fair b n from to
       ⊎_elim (λ k. is_below (0x80 ‥ 0xBF) a k)
       (λ k. let m = f.apart (omega arith) in is_above (0x80 ‥ 0xBF) a (omega arith)) (split a 0x80)
 
-  row_reads : (a : ℕ) (bs : List ℕ) {c w : ℕ} → within r a ≡ true → further from (suc (length rs)) rs (a - r.low) bs ≡ Char c w → Reads (a ∷ bs) c w
+  row_reads : (a : ℕ) (bs : List ℕ) {c w : ℕ} → within r a ≡ true → further from (suc (length rs)) rs (a - r.low) bs ≡ char_found c w → Reads (a ∷ bs) c w
   row_reads a bs {c} {w} e z =
       let l = within_low r a e in
       let g = within_high r a e in
@@ -112,16 +113,16 @@ module _ {b n from to : ℕ} {r : Range} {rs : List Range} (f : Fair b n from to
       })
 
 -- ---- the table
-in_reads : (rows : List TableRow) (b n : ℕ) → FairRows b n rows → (bs : List ℕ) {c w : ℕ} → look_in rows bs ≡ Char c w → Reads bs c w
+in_reads : (rows : List TableRow) (b n : ℕ) → FairRows b n rows → (bs : List ℕ) {c w : ℕ} → look_in rows bs ≡ char_found c w → Reads bs c w
 in_reads [] b n f bs z = no_end z
 in_reads (row from to r rs ∷ rows) b n f [] z = no_end z
 in_reads (row from to r rs ∷ rows) b n f (a ∷ bs) {c} {w} z = go (within r a) refl z (λ q. in_reads rows (suc r.high) (suc to) f.1 (a ∷ bs) q)
   where
-    go : (t : Bool) → within r a ≡ t → pick t (further from (suc (length rs)) rs (a - r.low) bs) (look_in rows (a ∷ bs)) ≡ Char c w
-        → (look_in rows (a ∷ bs) ≡ Char c w → Reads (a ∷ bs) c w) → Reads (a ∷ bs) c w
+    go : (t : Bool) → within r a ≡ t → pick t (further from (suc (length rs)) rs (a - r.low) bs) (look_in rows (a ∷ bs)) ≡ char_found c w
+        → (look_in rows (a ∷ bs) ≡ char_found c w → Reads (a ∷ bs) c w) → Reads (a ∷ bs) c w
     go true e q ih = row_reads f.0 a bs e q
     go false e q ih = ih q
 
-pub look_reads : (bs : List ℕ) {c w : ℕ} → look bs ≡ Char c w → Reads bs c w
+pub look_reads : (bs : List ℕ) {c w : ℕ} → look bs ≡ char_found c w → Reads bs c w
 unfolding look
 look_reads bs z = in_reads table37 0 0 fair bs z

@@ -1,5 +1,7 @@
 -- Where characters begin: in a well-formed text an edge is told by one byte, a character begins at each edge before the end, and ends at one.
 -- Assumes nothing.
+use Rattle.utf8.specs.Looks.{char_found}
+use Rattle.std.specs.Prelude.{None}
 use Prim.Native.Nat.{ℕ, zero, suc, ◌+◌, ◌-◌, ◌≤◌, ◌<◌}
 use native.Mathlib.Omega.{arith}
 use native.Mathlib.Nat.{zero-add, add_assoc}
@@ -17,7 +19,6 @@ use Rattle.basis.proofs.Bytes.{past}
 use Rattle.basis.proofs.Cases.{not_both}
 use Rattle.utf8.specs.Table.{◌‥◌, within, look, look_at, Ch, chars, chars_at, well, edge, boundary}
 use Rattle.utf8.specs.Unicode.{BoundaryExactly}
-use Rattle.utf8.specs.declared.Look.TheVariants.{Char, End}
 use Rattle.utf8.proofs.Ranges.{is_within, is_below, is_above}
 use Rattle.utf8.proofs.Decodes.{look_reads}
 use Rattle.utf8.proofs.Laws.{by_chars, look_width, at_width, chars_start, chars_end, well_char, well_end, edge_zero, edge_end, edge_inside, edge_char}
@@ -59,7 +60,7 @@ boundary_drop s w n h g = ⊎_elim inside outside (split n (length s))
         same = rw (length-drop w s) (⊎_elim (λ l. rw (ne_eqb n (length s) (λ q. omega arith), ne_eqb (n - w) (length s - w) (λ q. omega arith)))
             (λ l. rw (eq-eqb n (length s) (omega arith), eq-eqb (n - w) (length s - w) (omega arith))) (split (length s) n))
 
-module _ (s : List ℕ) {c w : ℕ} (e : look s ≡ Char c w) where
+module _ (s : List ℕ) {c w : ℕ} (e : look s ≡ char_found c w) where
   boundary_zero : boundary s 0 ≡ true
   boundary_zero = let h = look_width s e in boundary_byte s 0 (omega arith) ∙ ap isnt (look_reads s e).opens
 
@@ -68,17 +69,17 @@ module _ (s : List ℕ) {c w : ℕ} (e : look s ≡ Char c w) where
 
 -- ---- a proof by edges
 -- what holds at the start, and after a character if before it, holds at every edge
-pub by_edges : (s : List ℕ) (P : ℕ → Type 0) → P 0 → ((at c w : ℕ) → look_at s at ≡ Char c w → P at → P (at + w)) → (at : ℕ) → edge (chars s) at ≡ true → P at
+pub by_edges : (s : List ℕ) (P : ℕ → Type 0) → P 0 → ((at c w : ℕ) → look_at s at ≡ char_found c w → P at → P (at + w)) → (at : ℕ) → edge (chars s) at ≡ true → P at
 by_edges s P start char at e =
     by_chars s (λ i. P i → (n k : ℕ) → k ≡ i + n → edge (chars_at s i) n ≡ true → P k) ended on 0 start at at (omega arith) (rw (chars_start s) e)
   where
     here : (i n k : ℕ) → P i → k ≡ i + n → n < 1 → P k
     here i n k p q h = let z : k ≡ i = omega arith in rw z p
 
-    ended : (i : ℕ) → look_at s i ≡ End → P i → (n k : ℕ) → k ≡ i + n → edge (chars_at s i) n ≡ true → P k
+    ended : (i : ℕ) → look_at s i ≡ None → P i → (n k : ℕ) → k ≡ i + n → edge (chars_at s i) n ≡ true → P k
     ended i z p n k q t = ⊎_elim (λ h. here i n k p q h) (λ h. not_both t (edge_end s i n z h)) (split n 1)
 
-    on : (i c w : ℕ) → look_at s i ≡ Char c w → (P (i + w) → (n k : ℕ) → k ≡ i + w + n → edge (chars_at s (i + w)) n ≡ true → P k)
+    on : (i c w : ℕ) → look_at s i ≡ char_found c w → (P (i + w) → (n k : ℕ) → k ≡ i + w + n → edge (chars_at s (i + w)) n ≡ true → P k)
         → P i → (n k : ℕ) → k ≡ i + n → edge (chars_at s i) n ≡ true → P k
     on i c w z ih p n k q t =
         ⊎_elim (λ h. here i n k p q h)
@@ -94,10 +95,10 @@ boundary_from : (s : List ℕ) (at : ℕ) → well (drop at s) ≡ true → (n :
 unfolding look_at
 boundary_from s = by_chars s (λ at. well (drop at s) ≡ true → (n : ℕ) → boundary (drop at s) n ≡ edge (chars_at s at) n) ended on
   where
-    ended : (at : ℕ) → look_at s at ≡ End → well (drop at s) ≡ true → (n : ℕ) → boundary (drop at s) n ≡ edge (chars_at s at) n
+    ended : (at : ℕ) → look_at s at ≡ None → well (drop at s) ≡ true → (n : ℕ) → boundary (drop at s) n ≡ edge (chars_at s at) n
     ended at z e n = ⊎_elim (λ h. not_both e (well_end s at z h)) (λ h. rw (past s at h, chars_end s at z) (nothing_left n)) (split at (length s))
 
-    on : (at c w : ℕ) → look_at s at ≡ Char c w → (well (drop (at + w) s) ≡ true → (n : ℕ) → boundary (drop (at + w) s) n ≡ edge (chars_at s (at + w)) n)
+    on : (at c w : ℕ) → look_at s at ≡ char_found c w → (well (drop (at + w) s) ≡ true → (n : ℕ) → boundary (drop (at + w) s) n ≡ edge (chars_at s (at + w)) n)
         → well (drop at s) ≡ true → (n : ℕ) → boundary (drop at s) n ≡ edge (chars_at s at) n
     on at c w z ih e zero = boundary_zero (drop at s) z ∙ sym (edge_zero (chars_at s at))
     on at c w z ih e (suc m) =
@@ -119,14 +120,14 @@ edge_from s at e = by_edges s (λ i. (n : ℕ) → edge (chars s) (i + n) ≡ ed
     start : (n : ℕ) → edge (chars s) (0 + n) ≡ edge (chars_at s 0) n
     start n = rw (zero-add, chars_start s)
 
-    on : (i c w : ℕ) → look_at s i ≡ Char c w → ((n : ℕ) → edge (chars s) (i + n) ≡ edge (chars_at s i) n) → (n : ℕ) → edge (chars s) (i + w + n) ≡ edge (chars_at s (i + w)) n
+    on : (i c w : ℕ) → look_at s i ≡ char_found c w → ((n : ℕ) → edge (chars s) (i + n) ≡ edge (chars_at s i) n) → (n : ℕ) → edge (chars s) (i + w + n) ≡ edge (chars_at s (i + w)) n
     on i c w z ih n =
         let h = at_width s i z in
         let k : w + n - w ≡ n = omega arith in
         ap (edge (chars s)) (add_assoc i w n) ∙ ih (w + n) ∙ edge_char s i (w + n) z (omega arith) (omega arith) ∙ ap (edge (chars_at s (i + w))) k
 
 -- a character taken from an edge leads to an edge
-pub edge_step : (s : List ℕ) (at : ℕ) {c w : ℕ} → edge (chars s) at ≡ true → look_at s at ≡ Char c w → edge (chars s) (at + w) ≡ true
+pub edge_step : (s : List ℕ) (at : ℕ) {c w : ℕ} → edge (chars s) at ≡ true → look_at s at ≡ char_found c w → edge (chars s) (at + w) ≡ true
 edge_step s at {c} {w} e z =
     let h = at_width s at z in
     edge_from s at e w ∙ edge_char s at w z (omega arith) (omega arith) ∙ ap (edge (chars_at s (at + w))) (omega arith) ∙ edge_zero (chars_at s (at + w))
@@ -137,7 +138,7 @@ module _ (s : List ℕ) (e : well s ≡ true) where
   edge_well = by_edges s (λ i. well (drop i s) ≡ true) e (λ i c w z h. sym (well_char s i z) ∙ h)
 
   -- a character begins at an edge before the end
-  pub edge_look : (at : ℕ) → edge (chars s) at ≡ true → at < length s → look_at s at ≡ End → ⊥
+  pub edge_look : (at : ℕ) → edge (chars s) at ≡ true → at < length s → look_at s at ≡ None → ⊥
   edge_look at t h z = not_both (edge_well at t) (well_end s at z h)
 
   -- the end is an edge, and no edge is past it

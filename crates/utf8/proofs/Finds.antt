@@ -1,5 +1,6 @@
 -- The encoding of a scalar value is read back by the row of Table 3-7 that has the value.
 -- Assumes nothing.
+use Rattle.utf8.specs.Looks.{char_found}
 use Prim.Native.Nat.{ℕ, suc, ◌+◌, ◌-◌, ◌*◌, ◌/◌, ◌%◌, ◌≤◌}
 use native.Mathlib.Omega.{arith}
 use mathlib.Core.Bool.{true}
@@ -10,7 +11,6 @@ use lib.ListN.{length}
 use Rattle.basis.proofs.Bounds.{split}
 use Rattle.utf8.specs.Table.{Range, within, TableRow, row, table37, further, look_in, look}
 use Rattle.utf8.specs.Encode.{is_scalar, encode}
-use Rattle.utf8.specs.declared.Look.TheVariants.{Char}
 use Rattle.utf8.proofs.Encodes.{scalar_small, scalar_past}
 use Rattle.utf8.proofs.Ranges.{within_low, is_within, is_above}
 use Rattle.utf8.proofs.Digits.{shift, tails, base, encode_by, tails_length}
@@ -36,8 +36,8 @@ on_digit_lem : (y v p x : ℕ) → 0x80 ≤ y → y ≤ 0x80 + x % 64 → v + p 
 on_digit_lem y v p x h l d = omega arith
 
 tail_finds : (rs : List Range) (f w v p u c : ℕ) (t : List ℕ) → Bytes p u rs → f ≡ lows p rs → lows p rs ≤ c → c ≤ highs u rs → v + p ≡ shift (length rs) c
-    → further f w rs v (tails (length rs) c ++ t) ≡ Char c w
-tail_finds [] f w v p u c t k e l g d = ap (λ (x : ℕ). Char x w) (omega arith)
+    → further f w rs v (tails (length rs) c ++ t) ≡ char_found c w
+tail_finds [] f w v p u c t k e l g d = ap (λ (x : ℕ). char_found x w) (omega arith)
 tail_finds (s ∷ rs) f w v p u c t k e l g d =
     let x : ℕ = shift (length rs) c in
     let i = digits_least rs (on_low p s) (on_high u s) c k.1 l in
@@ -54,7 +54,7 @@ record Finds (b : ℕ) (rows : List TableRow) (t : List ℕ) (c : ℕ) : Type 0 
   others : List ℕ
   bytes : encode c ≡ first ∷ others
   after : b ≤ first
-  found : look_in rows (first ∷ others ++ t) ≡ Char c (length (encode c))
+  found : look_in rows (first ∷ others ++ t) ≡ char_found c (length (encode c))
 
 -- its own row
 row_finds : {b n from to : ℕ} {r : Range} {rs : List Range} → Fair b n from to r rs → (rows : List TableRow) (t : List ℕ) (c : ℕ) → from ≤ c → c ≤ to
@@ -101,8 +101,8 @@ in_finds (row from to r rs ∷ rows) b n f t c s h =
     ⊎_elim (λ g. row_finds f.0 rows t c (next_row f.0 c s h) (omega arith))
     (λ g. later_finds f.0 (in_finds rows (suc r.high) (suc to) f.1 t c s g)) (split c (suc to))
 
-pub look_encode : (c : ℕ) (t : List ℕ) → is_scalar c ≡ true → look (encode c ++ t) ≡ Char c (length (encode c))
+pub look_encode : (c : ℕ) (t : List ℕ) → is_scalar c ≡ true → look (encode c ++ t) ≡ char_found c (length (encode c))
 unfolding look
 look_encode c t s =
     let i = in_finds table37 0 0 fair t c s (omega arith) in
-    rw i.bytes (i.found ∙ ap (λ (l : List ℕ). Char c (length l)) i.bytes)
+    rw i.bytes (i.found ∙ ap (λ (l : List ℕ). char_found c (length l)) i.bytes)

@@ -1,5 +1,7 @@
 -- The theorems of specs/Unicode.antt (Boundary-exactly is boundary-edge of proofs/Edges.antt), and the laws of encodings that callers cite.
 -- Assumes nothing.
+use Rattle.utf8.specs.Looks.{char_found}
+use Rattle.std.specs.Prelude.{None}
 use Prim.Native.Nat.{ℕ, ◌+◌}
 use mathlib.Core.Bool.{true}
 use mathlib.Core.List.{List, [], ◌∷◌, ◌++◌}
@@ -14,13 +16,12 @@ use Rattle.basis.proofs.Cases.{not_both, both_left, both_right}
 use Rattle.utf8.specs.Table.{look, look_at, Ch, chars_from, chars, chars_at, codes, well_from, well}
 use Rattle.utf8.specs.Encode.{is_scalar, encode, encode_all, all_scalar}
 use Rattle.utf8.specs.Unicode.{WellFormedExactly, DecodedAgain, EncodedAgain, FoundScalar, FoundBytes, FoundSize, FoundWidth}
-use Rattle.utf8.specs.declared.Look.TheVariants.{Char, End}
 use Rattle.utf8.proofs.Decodes.{look_reads}
 use Rattle.utf8.proofs.Finds.{look_encode}
 use Rattle.utf8.proofs.Laws.{by_chars, at_width, chars_cons, chars_char, chars_end, chars_start, well_cons, well_char, well_end}
 
 -- ---- a character found
-module _ (s : List ℕ) (at : ℕ) {c w : ℕ} (e : look_at s at ≡ Char c w) where
+module _ (s : List ℕ) (at : ℕ) {c w : ℕ} (e : look_at s at ≡ char_found c w) where
   pub size_width : length (encode c) ≡ w
   unfolding look_at
   size_width = (look_reads (drop at s) e).width
@@ -38,7 +39,7 @@ module _ (s : List ℕ) (at : ℕ) {c w : ℕ} (e : look_at s at ≡ Char c w) w
 -- ---- whole texts
 -- the encodings of scalar values are well formed, and read back as those values
 module _ (c : ℕ) (cs : List ℕ) (e : both (is_scalar c) (all_scalar cs) ≡ true) where
-  first_read : look (encode c ++ encode_all cs) ≡ Char c (length (encode c))
+  first_read : look (encode c ++ encode_all cs) ≡ char_found c (length (encode c))
   first_read = look_encode c (encode_all cs) (both_left (is_scalar c) (all_scalar cs) e)
 
 pub scalars_well : (cs : List ℕ) → all_scalar cs ≡ true → well (encode_all cs) ≡ true
@@ -65,10 +66,10 @@ encoded_from : (s : List ℕ) (at : ℕ) → well (drop at s) ≡ true → Encod
 unfolding look_at encode_all all_scalar codes
 encoded_from s = by_chars s (λ at. well (drop at s) ≡ true → Encoded (drop at s) (chars_at s at)) ended on
   where
-    ended : (at : ℕ) → look_at s at ≡ End → well (drop at s) ≡ true → Encoded (drop at s) (chars_at s at)
+    ended : (at : ℕ) → look_at s at ≡ None → well (drop at s) ≡ true → Encoded (drop at s) (chars_at s at)
     ended at z e = ⊎_elim (λ h. not_both e (well_end s at z h)) (λ h. rw (past s at h, chars_end s at z) (refl, refl)) (split at (length s))
 
-    on : (at c w : ℕ) → look_at s at ≡ Char c w → (well (drop (at + w) s) ≡ true → Encoded (drop (at + w) s) (chars_at s (at + w)))
+    on : (at c w : ℕ) → look_at s at ≡ char_found c w → (well (drop (at + w) s) ≡ true → Encoded (drop (at + w) s) (chars_at s (at + w)))
         → well (drop at s) ≡ true → Encoded (drop at s) (chars_at s at)
     on at c w z ih e =
         let r = look_reads (drop at s) z in

@@ -1,5 +1,6 @@
 -- How wide a character is: by the row of Table 3-7 that has its first byte, and what the width tells of the character.
 -- Assumes nothing.
+use Rattle.std.specs.Prelude.{None, Some}
 use Prim.Native.Nat.{ℕ, suc, ◌+◌, ◌-◌, ◌*◌, ◌≤◌, ◌<◌}
 use native.Mathlib.Omega.{arith}
 use mathlib.Core.Bool.{Bool, true, false}
@@ -14,8 +15,7 @@ use Rattle.basis.proofs.Cases.{not_both, both_left}
 use Rattle.utf8.specs.Table.{Range, ◌‥◌, within, further, look, look_at}
 use Rattle.utf8.specs.Bits.{bits_of}
 use Rattle.utf8.specs.Widths.{width_of, fits_row, row_width}
-use Rattle.utf8.specs.declared.Look.{Look}
-use Rattle.utf8.specs.declared.Look.TheVariants.{Char, End}
+use Rattle.utf8.specs.Looks.{Look, char_found}
 use Rattle.utf8.proofs.Encodes.{enc1}
 use Rattle.utf8.proofs.Ranges.{within_high, is_within}
 use Rattle.utf8.proofs.Decodes.{look_reads}
@@ -32,7 +32,7 @@ further_width (r ∷ rs) from w v (b ∷ bs) =
     let u : ℕ = v * 64 + (b - r.low) in
     by (within r b) (further from w rs u bs) (fits_row rs bs) (further_width rs from w u bs)
   where
-    by : (t : Bool) (x : Look) (y : Bool) → width_of x ≡ pick y w 0 → width_of (pick t x End) ≡ pick (both t y) w 0
+    by : (t : Bool) (x : Look) (y : Bool) → width_of x ≡ pick y w 0 → width_of (pick t x None) ≡ pick (both t y) w 0
     by true x y e = e
     by false x y e = refl
 
@@ -137,35 +137,35 @@ fits_no_bits (x ∷ bs) b e h = by (within (0x80 ‥ 0xBF) x) refl e
     by false p q = refl
 
 -- ---- what the width tells
-width_found : (x : Look) (w : ℕ) → w ≡ width_of x → (w ≡ 0 → ⊥) → (c : ℕ) × (x ≡ Char c w)
+width_found : (x : Look) (w : ℕ) → w ≡ width_of x → (w ≡ 0 → ⊥) → (c : ℕ) × (x ≡ char_found c w)
 unfolding width_of
-width_found (Char c v) w e n = (c, ap (Char c) (sym e))
-width_found End w e n = absurd (n e)
+width_found (Some (c, v)) w e n = (c, ap (char_found c) (sym e))
+width_found None w e n = absurd (n e)
 
-pub char_width : {x : Look} {c w : ℕ} → x ≡ Char c w → w ≡ width_of x
+pub char_width : {x : Look} {c w : ℕ} → x ≡ char_found c w → w ≡ width_of x
 unfolding width_of
 char_width e = rw e
 
-pub end_width : {x : Look} → x ≡ End → 0 ≡ width_of x
+pub end_width : {x : Look} → x ≡ None → 0 ≡ width_of x
 unfolding width_of
 end_width e = rw e
 
 module _ (s : List ℕ) (at : ℕ) (h : at < length s) {w : ℕ} (e : w ≡ width_of (look (get_or s at 0 ∷ drop (at + 1) s))) where
   -- a character is there
-  pub wide_char : (w ≡ 0 → ⊥) → (c : ℕ) × (look_at s at ≡ Char c w)
+  pub wide_char : (w ≡ 0 → ⊥) → (c : ℕ) × (look_at s at ≡ char_found c w)
   wide_char n = width_found (look_at s at) w (e ∙ ap width_of (look_here s at h)) n
 
   -- none is
-  pub wide_none : w ≡ 0 → look_at s at ≡ End
+  pub wide_none : w ≡ 0 → look_at s at ≡ None
   unfolding width_of
   wide_none z = by (look_at s at) refl
     where
-      by : (x : Look) → look_at s at ≡ x → x ≡ End
-      by (Char c v) f = absurd (omega (arith, at_width s at f, sym z ∙ e ∙ ap width_of (look_here s at h ∙ f)))
-      by End f = refl
+      by : (x : Look) → look_at s at ≡ x → x ≡ None
+      by (Some (c, v)) f = absurd (omega (arith, at_width s at f, sym z ∙ e ∙ ap width_of (look_here s at h ∙ f)))
+      by None f = refl
 
 -- a byte above 7F begins a character above 7F
-pub look_high : (a : ℕ) (bs : List ℕ) {c w : ℕ} → 0x80 ≤ a → look (a ∷ bs) ≡ Char c w → 0x80 ≤ c
+pub look_high : (a : ℕ) (bs : List ℕ) {c w : ℕ} → 0x80 ≤ a → look (a ∷ bs) ≡ char_found c w → 0x80 ≤ c
 look_high a bs {c} {w} h e = ⊎_elim low (λ g. g) (split c 0x80)
   where
     head_is : {a b : ℕ} {xs ys : List ℕ} → a ∷ xs ≡ b ∷ ys → a ≡ b
@@ -174,5 +174,5 @@ look_high a bs {c} {w} h e = ⊎_elim low (λ g. g) (split c 0x80)
     low : c < 0x80 → 0x80 ≤ c
     low g = absurd (omega (arith, head_is ((look_reads (a ∷ bs) e).bytes ∙ ap (λ (l : List ℕ). l ++ drop w (a ∷ bs)) (enc1 c g))))
 
-pub at_high : (s : List ℕ) (at : ℕ) {c w : ℕ} → 0x80 ≤ get_or s at 0 → look_at s at ≡ Char c w → 0x80 ≤ c
+pub at_high : (s : List ℕ) (at : ℕ) {c w : ℕ} → 0x80 ≤ get_or s at 0 → look_at s at ≡ char_found c w → 0x80 ≤ c
 at_high s at h e = let r = at_width s at e in look_high (get_or s at 0) (drop (at + 1) s) h (look_here s at (omega arith) ∙ e)

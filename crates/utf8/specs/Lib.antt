@@ -1,6 +1,7 @@
-pub mod Table
-pub mod Encode
 pub mod Bits
-pub mod Widths
-pub mod Unicode
 pub mod Blocks
+pub mod Encode
+pub mod Looks
+pub mod Table
+pub mod Unicode
+pub mod Widths

@@ -1,9 +1,8 @@
 -- UTF-8 as Unicode's Table 3-7 prints it: the character that bytes begin with, the characters of a text, and where they begin.
-use Rattle.std.specs.Prelude.{ℕ, zero, suc, pred, ◌+◌, ◌-◌, ◌*◌, Bool, true, false, List, [], ◌∷◌, leb, ltb, eqb, length, drop, get_or}
+use Rattle.std.specs.Prelude.{ℕ, zero, suc, pred, ◌+◌, ◌-◌, ◌*◌, Bool, true, false, List, [], ◌∷◌, leb, ltb, eqb, length, drop, get_or, None, Some}
 use Rattle.basis.specs.Types.{Text, Code, Offset}
 use Rattle.basis.specs.Pick.{pick, both, isnt}
-use Rattle.utf8.specs.declared.Look.{Look}
-use Rattle.utf8.specs.declared.Look.TheVariants.{Char, End}
+use Rattle.utf8.specs.Looks.{Look, char_found}
 
 -- a range of bytes, both ends in it
 pub record Range : Type 0 where
@@ -39,14 +38,14 @@ table37 =
 
 -- the further bytes of a row, each in its range: the code point, counted on from v in sixty-fourths, and the width w
 abbrev pub further : Code → ℕ → List Range → ℕ → Text → Look
-further from w [] v bs = Char (from + v) w
-further from w (r ∷ rs) v [] = End
-further from w (r ∷ rs) v (b ∷ bs) = pick (within r b) (further from w rs (v * 64 + (b - r.low)) bs) End
+further from w [] v bs = char_found (from + v) w
+further from w (r ∷ rs) v [] = None
+further from w (r ∷ rs) v (b ∷ bs) = pick (within r b) (further from w rs (v * 64 + (b - r.low)) bs) None
 
 -- the character that the bytes begin with, by the row that has the first byte; End if no row has it
 abbrev pub look_in : List TableRow → Text → Look
-look_in [] bs = End
-look_in (row from to r rs ∷ rows) [] = End
+look_in [] bs = None
+look_in (row from to r rs ∷ rows) [] = None
 look_in (row from to r rs ∷ rows) (b ∷ bs) =
     pick (within r b) (further from (suc (length rs)) rs (b - r.low) bs) (look_in rows (b ∷ bs))
 
@@ -69,8 +68,8 @@ ch c w = record { code = c; width = w }
 
 -- a character found, and then those after its bytes
 abbrev pub chars_on : Look → (ℕ → List Ch) → List Ch
-chars_on (Char c w) on = ch c w ∷ on (pred w)
-chars_on End on = []
+chars_on (Some (c, w)) on = ch c w ∷ on (pred w)
+chars_on None on = []
 
 -- the characters of a text of which k bytes are still to pass
 unfoldable pub chars_from : ℕ → Text → List Ch
@@ -93,8 +92,8 @@ codes (c ∷ cs) = c.code ∷ codes cs
 
 -- a character found, and the same asked after its bytes
 abbrev pub well_on : Look → (ℕ → Bool) → Bool
-well_on (Char c w) on = on (pred w)
-well_on End on = false
+well_on (Some (c, w)) on = on (pred w)
+well_on None on = false
 
 -- a text of which k bytes are still to pass is well formed after them
 unfoldable pub well_from : ℕ → Text → Bool

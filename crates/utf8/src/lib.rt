@@ -10,12 +10,8 @@ ghost use Rattle.utf8.specs.Encode.{is_scalar};
 ghost use Rattle.utf8.specs.Bits.{bits_of, joined_of, sized_of};
 ghost use Rattle.utf8.specs.Widths.{width_of};
 
-// The character that begins at an offset: its code point and its width in bytes; End where none does.
-#[derive(Clone, Copy)]
-pub enum Look {
-    Char(u32, usize),
-    End,
-}
+// The character that begins at an offset: its code point and its width in bytes; None where none does.
+pub type Look = Option<(u32, usize)>;
 
 // The six bits of a further byte, 80..BF, at an offset; 64 where none stands.
 fn bits_at(text: &[u8], at: usize) -> u32
@@ -58,10 +54,10 @@ fn sized(text: &[u8], at: usize, n: usize, first: u32, least: u32) -> Look
     let c = joined(text, at, n, first);
     if least <= c {
         if is_scalar(c) {
-            return Look::Char(c, n + 1);
+            return Some((c, n + 1));
         }
     }
-    Look::End
+    None
 }
 
 // The character at an offset whose byte, a, is above 7F: Table 3-6 read backwards. It has two callers, `look_at` and `width`, so that the compiler keeps it apart and those two small.
@@ -70,7 +66,7 @@ fn longer(text: &[u8], at: usize, a: u32) -> Look
     ensures { result ≡ look (a ∷ drop (at + 1) text.now) }
 {
     if a < 0xC0 {
-        return Look::End;
+        return None;
     }
     if a < 0xE0 {
         return sized(text, at, 1, a - 0xC0, 0x80);
@@ -81,7 +77,7 @@ fn longer(text: &[u8], at: usize, a: u32) -> Look
     if a < 0xF8 {
         return sized(text, at, 3, a - 0xF0, 0x10000);
     }
-    Look::End
+    None
 }
 
 // Whether a character of three bytes whose first, a, is E1..EC stands at an offset: Table 3-7's row with the most letters.
@@ -148,22 +144,22 @@ pub fn width(text: &[u8], at: usize, a: u32) -> usize
     if is_four(text, at, a) {
         return 4;
     }
-    let Look::Char(_, w) = longer(text, at, a) else {
+    let Some((_, w)) = longer(text, at, a) else {
         return 0;
     };
     w
 }
 
-// The character at an offset; End also past the end.
+// The character at an offset; None also past the end.
 pub fn look_at(text: &[u8], at: usize) -> Look
     ensures { result ≡ look_at text.now at }
 {
     if text.len() <= at {
-        return Look::End;
+        return None;
     }
     let a = text[at] as u32;
     if a < 0x80 {
-        return Look::Char(a, 1);
+        return Some((a, 1));
     }
     longer(text, at, a)
 }

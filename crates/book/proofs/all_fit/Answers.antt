@@ -1,15 +1,15 @@
--- The loop passes the words that are fit. Assumes nothing.
-use Rattle.book.proofs.Words.{fitting_start, not_fit, fitting_next, fitting_end}
+-- The words are the book's, in turn. Assumes nothing.
+use native.Mathlib.Omega.{arith}
+use mathlib.Core.Path.{refl, ◌∙◌}
+use Rattle.std.proofs.Common.{rules, tests}
+use Rattle.std.proofs.lemmas.Iterator.{YieldsList-from_range}
+use Rattle.std.proofs.lemmas.Iterator.Search.{all_from_yields_List}
+use Rattle.book.specs.Contents.{word_at}
+use Rattle.book.specs.Book.{fit}
+use Rattle.book.proofs.Words.{each_fits}
 use Rattle.book.proofs.all_fit.Goals as goal
 
-pub loop-k-init : goal.loop-k-init
-loop-k-init c = fitting_start _ _ c.requires.0
-
-pub loop-k-preserved : goal.loop-k-preserved
-loop-k-preserved c = fitting_next _ _ _ c.loop-k.invariant c.loop-k-test.true _ c.is_fit.ensures c.if-is_fit.true
-
-pub returns-else-is_fit : goal.returns-else-is_fit
-returns-else-is_fit c = not_fit _ _ _ c.loop-k.invariant c.loop-k-test.true _ c.is_fit.ensures c.if-is_fit.false
-
 pub returns : goal.returns
-returns c = fitting_end _ _ _ c.loop-k.invariant c.loop-k-test.false
+returns c =
+    all_from_yields_List (λ k. fit (word_at c.args.contents.book.now k)) _ _ c.all.result c.all.ensures.ran (YieldsList-from_range 0 c.args.contents.words c.args.contents.words refl (omega arith)) (λ x b q k. search (rules, tests))
+    ∙ each_fits _ _ c.args.contents.counted

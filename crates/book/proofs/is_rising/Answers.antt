@@ -1,21 +1,12 @@
--- The loop passes the words that are below the next one. Assumes nothing.
-use Rattle.book.proofs.Words.{mounting_start, equal_words, falling_words, mounting_next, mounting_end}
+-- Each word but the first is above the one before it. Assumes nothing.
+use mathlib.Core.Path.{refl, ◌∙◌}
+use Rattle.std.proofs.Common.{rules, tests}
+use Rattle.std.proofs.lemmas.Iterator.{YieldsList-from_range}
+use Rattle.std.proofs.lemmas.Iterator.Search.{all_from_yields_List}
+use Rattle.book.proofs.Words.{is_above, each_rises}
 use Rattle.book.proofs.is_rising.Goals as goal
 
-pub loop-k-init : goal.loop-k-init
-loop-k-init c = mounting_start _ _ c.requires.0
-
-pub loop-k-preserved : goal.loop-k-preserved
-loop-k-preserved c =
-    mounting_next _ _ _ c.loop-k.invariant c.loop-k-test.true _ _ c.text_at.ensures.result_value c.text_at-in-loop-k.ensures.result_value _ c.compare.ensures c.in-Less.is
-
-pub returns-in-Equal : goal.returns-in-Equal
-returns-in-Equal c =
-    equal_words _ _ _ c.loop-k.invariant c.loop-k-test.true _ _ c.text_at.ensures.result_value c.text_at-in-loop-k.ensures.result_value _ c.compare.ensures c.in-Equal.is
-
-pub returns-in-Greater : goal.returns-in-Greater
-returns-in-Greater c =
-    falling_words _ _ _ c.loop-k.invariant c.loop-k-test.true _ _ c.text_at.ensures.result_value c.text_at-in-loop-k.ensures.result_value _ c.compare.ensures c.in-Greater.is
-
 pub returns : goal.returns
-returns c = mounting_end _ _ _ c.loop-k.invariant c.loop-k-test.false
+returns c =
+    all_from_yields_List (is_above c.args.contents.book.now) _ _ c.all.result c.all.ensures.ran (YieldsList-from_range 1 c.args.contents.words _ refl refl) (λ x b q k. search (rules, tests))
+    ∙ each_rises _ _ c.args.contents.counted

@@ -5,11 +5,13 @@ use mathlib.Core.Bool.{true}
 use mathlib.Core.List.{List, [], ◌∷◌}
 use mathlib.Core.Path.{◌≡◌, refl, sym, ap₂, ◌∙◌}
 use mathlib.Core.Logic.{⊎_elim}
-use borrow.Author.Tests.{lt-ltb, le-ltb}
+use borrow.Author.Tests.{lt-ltb, le-ltb, eq-eqb, ne_eqb}
 use Rattle.basis.proofs.Bounds.{split}
-use Rattle.book.specs.Order.{compared, is_less}
-use Rattle.book.specs.declared.order.Order.{Order}
-use Rattle.book.specs.declared.order.Order.TheVariants.{Less, Equal, Greater}
+use Rattle.std.specs.Ordering.{nat_cmp, is_lt}
+use Rattle.std.specs.Cmp.Lexicographic.{slice_cmp}
+use Rattle.book.specs.Order.{compared}
+use Rattle.std.specs.declared.cmp.Ordering.{Ordering}
+use Rattle.std.specs.declared.cmp.Ordering.TheVariants.{Less, Equal, Greater}
 
 -- two numbers stand in one of three ways
 module _ {A : Type 0} (x y : ℕ) where
@@ -31,13 +33,13 @@ module _ (x y : ℕ) (xs ys : List ℕ) where
   first_same h = rw (le-ltb x y (omega arith), le-ltb y x (omega arith))
 
 -- one answer is not another
-pub not_less_greater {ℓ} : {A : Type ℓ} {o : Order} → o ≡ Less → o ≡ Greater → A
+pub not_less_greater {ℓ} : {A : Type ℓ} {o : Ordering} → o ≡ Less → o ≡ Greater → A
 not_less_greater p q = absurd (let z : ◌≡◌ {A = ℕ} 0 1 = cc in omega arith)
 
-pub not_less_equal {ℓ} : {A : Type ℓ} {o : Order} → o ≡ Less → o ≡ Equal → A
+pub not_less_equal {ℓ} : {A : Type ℓ} {o : Ordering} → o ≡ Less → o ≡ Equal → A
 not_less_equal p q = absurd (let z : ◌≡◌ {A = ℕ} 0 1 = cc in omega arith)
 
-pub not_greater_equal {ℓ} : {A : Type ℓ} {o : Order} → o ≡ Greater → o ≡ Equal → A
+pub not_greater_equal {ℓ} : {A : Type ℓ} {o : Ordering} → o ≡ Greater → o ≡ Equal → A
 not_greater_equal p q = absurd (let z : ◌≡◌ {A = ℕ} 0 1 = cc in omega arith)
 
 -- a text is equal to itself, and to no other
@@ -74,7 +76,19 @@ less_less (x ∷ xs) (y ∷ ys) (z ∷ zs) p q =
     (λ g. first_same x z xs zs (omega arith) ∙ less_less xs ys zs (sym (first_same x y xs ys h) ∙ p) (sym (first_same y z ys zs g) ∙ q)))
 
 -- a test for Less that holds
-pub is_less_lem : (o : Order) → is_less o ≡ true → o ≡ Less
+pub is_less_lem : (o : Ordering) → is_lt o ≡ true → o ≡ Less
 is_less_lem Less e = refl
 is_less_lem Equal e = absurd (let z : ◌≡◌ {A = ℕ} 0 1 = cc in omega arith)
 is_less_lem Greater e = absurd (let z : ◌≡◌ {A = ℕ} 0 1 = cc in omega arith)
+
+-- the order is the library's order of slices
+pub as_slices : (v w : List ℕ) → slice_cmp nat_cmp v w ≡ compared v w
+unfolding compared
+as_slices [] [] = refl
+as_slices [] (y ∷ ys) = refl
+as_slices (x ∷ xs) [] = refl
+as_slices (x ∷ xs) (y ∷ ys) =
+    three x y
+    (λ h. rw (lt-ltb x y h))
+    (λ h. rw (le-ltb x y (omega arith), lt-ltb y x h, ne_eqb x y (λ e. omega arith)))
+    (λ h. rw (le-ltb x y (omega arith), le-ltb y x (omega arith), eq-eqb x y h) (as_slices xs ys))

@@ -1,4 +1,5 @@
 -- What each case of an answer tells as a number; a place that a case does not have is NONE, which is 0. Assumes nothing.
+use Rattle.std.specs.Prelude.{Err, Ok}
 use Prim.Native.Nat.{ℕ}
 use native.Mathlib.Omega.{arith}
 use mathlib.Core.Path.{◌≡◌}
@@ -6,13 +7,12 @@ use Rattle.c_answer.specs.Packed.{packed, refusal_as_number}
 use Rattle.c_answer.proofs.Examples.{worked}
 use Rattle.position.specs.declared.Position.{Position}
 use Rattle.places.specs.Told.{told}
-use Rattle.places.specs.declared.coordinates.Placed.TheVariants.{At, Refused}
 use Rattle.c_places.specs.PlaceNumbers.{placed_as_number}
 
-pub at_number : (p : Position) → packed p ≡ placed_as_number (At p)
+pub at_number : (p : Position) → packed p ≡ placed_as_number (Ok p)
 unfolding refusal_as_number told placed_as_number
 at_number p = omega arith
 
-pub refused_number : (n : ℕ) → refusal_as_number n ≡ placed_as_number (Refused n)
+pub refused_number : (n : ℕ) → refusal_as_number n ≡ placed_as_number (Err n)
 unfolding told placed_as_number
 refused_number n = rw worked.no_place (omega arith)

@@ -1,16 +1,15 @@
 -- Worked examples of the numbers and of the rows, under one theorem. Assumes nothing.
+use Rattle.std.specs.Prelude.{Err, None, Some}
 use mathlib.Core.Path.{◌≡◌, refl}
-use Rattle.places.specs.declared.coordinates.Placed.TheVariants.{Refused}
-use Rattle.places.specs.declared.coordinates.Coordinate.TheVariants as coordinate
 use Rattle.position.specs.Place.{none, line_number, column_number}
 use Rattle.places.specs.Told.{told}
 use Rattle.c_answer.specs.Packed.{packed, refusal_as_number}
 use Rattle.c_places.specs.PlaceNumbers.{placed_as_number, coordinate_as_number}
 
 pub record Worked : Type 0 where
-  pub no_sum : placed_as_number (Refused 15) ≡ 64424509440
-  pub a_column : coordinate_as_number (coordinate.Some 7) ≡ 7
-  pub no_column : coordinate_as_number coordinate.None ≡ 4294967296
+  pub no_sum : placed_as_number (Err 15) ≡ 64424509440
+  pub a_column : coordinate_as_number (Some 7) ≡ 7
+  pub no_column : coordinate_as_number None ≡ 4294967296
 
 pub worked : Worked
 unfolding none line_number column_number packed refusal_as_number told placed_as_number coordinate_as_number

@@ -7,7 +7,7 @@ use Rattle.position.specs.Place.{given}
 use Rattle.position.specs.declared.Position.{Position}
 use Rattle.token_ends.specs.Ends.{record_token_of}
 use Rattle.token_ends.specs.Told.{told}
-use Rattle.token_ends.specs.declared.Recorded.{Recorded}
+use Rattle.token_ends.specs.Answer.{Recorded}
 use Rattle.token_ends.specs.declared.TokenEnds.{TokenEnds}
 use Rattle.c_places.specs.Rows.{place_row, pair_row, places_row, end_numbers, ends_given, record_row}
 

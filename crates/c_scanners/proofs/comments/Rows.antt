@@ -7,7 +7,7 @@ use Rattle.position.specs.Place.{given}
 use Rattle.position.specs.declared.Position.{Position}
 use Rattle.chars.specs.Cursors.{cursor}
 use Rattle.comment.specs.Block.{told, scan_block_comment_of}
-use Rattle.comment.specs.declared.scan.Commented.{Commented}
+use Rattle.comment.specs.Answer.{Commented}
 use Rattle.c_scanners.specs.CommentRow.{comment_numbers, comment_row}
 
 module _ (t : List ℕ) (at l c level : ℕ) where

@@ -4,21 +4,14 @@ use mathlib.Core.List.{List}
 use mathlib.Core.Path.{◌≡◌, refl, ap, ◌∙◌}
 use lib.ListN.{length, get_or}
 use Rattle.literal.specs.Cut.{wrote}
-use Rattle.literal.specs.Told.{refusal_number, scanned_fault}
+use Rattle.literal.specs.Told.{refusal_number}
 use Rattle.literal.specs.Trace.{Trace}
-use Rattle.literal.specs.declared.Scanned.{Scanned}
-use Rattle.literal.specs.declared.Scanned.TheVariants.{Accepted, Refused}
+use Rattle.literal.specs.Scans.{Scanned}
 use Rattle.numbers.specs.Answer.{answered}
 use Rattle.numbers.proofs.Answers as row
 use Rattle.c_answer.specs.Short.{short_row_number}
 use Rattle.c_answer.proofs.Short.{short_told, long_told}
 use Rattle.c_scanners.specs.LiteralRow.{literal_row, ScanLeaves}
-
--- the number of the fault that is told
-pub fault_number : (s : Scanned) → (scanned_fault s).number ≡ refusal_number s
-unfolding scanned_fault refusal_number
-fault_number (Accepted e n) = refl
-fault_number (Refused f) = refl
 
 module _ (s : Scanned) (answer : List ℕ) where
   -- eleven numbers

@@ -7,7 +7,7 @@ use Rattle.position.specs.Place.{given}
 use Rattle.position.specs.declared.Position.{Position}
 use Rattle.identifier.specs.Identifiers.{identifier_of}
 use Rattle.identifier.specs.Told.{told}
-use Rattle.identifier.specs.declared.scan.Identified.{Identified}
+use Rattle.identifier.specs.Answer.{Identified}
 use Rattle.c_words.specs.IdentifierRow.{identifier_numbers, identifier_row}
 
 module _ (t : List ℕ) (at l c : ℕ) (book : List ℕ) where

@@ -1,4 +1,5 @@
 -- Where a stretch ends, for each way through the loop. Assumes nothing.
+use Rattle.std.specs.Prelude.{None, Some}
 use Prim.Native.Char.{code}
 use Prim.Native.Nat.{ℕ, ◌+◌, ◌≤◌, ◌<◌}
 use native.Mathlib.Omega.{arith}
@@ -6,6 +7,7 @@ use mathlib.Core.Bool.{Bool, true, false}
 use mathlib.Core.List.{List}
 use mathlib.Core.Logic.{⊎_elim}
 use mathlib.Core.Path.{◌≡◌, refl, sym, ap, ◌∙◌}
+use Rattle.std.proofs.lemmas.Option.{some_pair_parts}
 use lib.ListN.{length, get_or}
 use borrow.Author.Tests.{eq-eqb, ne_eqb}
 use Rattle.basis.proofs.Bounds.{split}
@@ -14,8 +16,7 @@ use Rattle.position.specs.declared.Position.{Position}
 use Rattle.position.specs.Place.{advanced, advanced_by}
 use Rattle.position.proofs.Moves.{advanced_by_none, advanced_by_more}
 use Rattle.utf8.specs.Table.{◌‥◌, look_at}
-use Rattle.utf8.specs.declared.Look.{Look}
-use Rattle.utf8.specs.declared.Look.TheVariants as look
+use Rattle.utf8.specs.Looks.{Look, char_found}
 use Rattle.utf8.proofs.Ranges.{is_above}
 use Rattle.utf8.proofs.Bits.{look_ascii}
 use Rattle.utf8.proofs.Laws.{at_width, by_chars}
@@ -57,30 +58,30 @@ word_high c h =
     )
 
 -- ---- where it stops
-char_is : {c d v w : ℕ} → look.Char c w ≡ look.Char d v → c ≡ d
-char_is e = cc
+char_is : {c d v w : ℕ} → char_found c w ≡ char_found d v → c ≡ d
+char_is {c} {d} {v} {w} e = (some_pair_parts c d w v e).0
 
-no_char_lem {ℓ} : {A : Type ℓ} {d v : ℕ} → look.End ≡ look.Char d v → A
+no_char_lem {ℓ} : {A : Type ℓ} {d v : ℕ} → None ≡ char_found d v → A
 no_char_lem e = absurd (let z : ◌≡◌ {A = ℕ} 0 1 = cc in omega arith)
 
 module _ (what : Stretch) (t : List ℕ) {a k b : ℕ} (p : stretch.StretchOf t (Goes what) a k b) where
-  pub ends_there : look_at t b ≡ look.End → Ends what t a k b
+  pub ends_there : look_at t b ≡ None → Ends what t a k b
   ends_there e = record { passed = p; stops = λ c w f. no_char_lem (sym e ∙ f) }
 
-  pub stops_there : {c w : ℕ} → look_at t b ≡ look.Char c w → goes_on_in what c ≡ false → Ends what t a k b
+  pub stops_there : {c w : ℕ} → look_at t b ≡ char_found c w → goes_on_in what c ≡ false → Ends what t a k b
   stops_there e n = record { passed = p; stops = λ d v f. ap (goes_on_in what) (sym (char_is (sym e ∙ f))) ∙ n }
 
 -- ---- by the byte at an offset
 module _ (t : List ℕ) (at : ℕ) (h : at < length t) where
   -- one that a word goes on with is a character
-  pub word_byte : goes_on_in Word (get_or t at 0) ≡ true → look_at t at ≡ look.Char (get_or t at 0) 1
+  pub word_byte : goes_on_in Word (get_or t at 0) ≡ true → look_at t at ≡ char_found (get_or t at 0) 1
   word_byte y = ⊎_elim (λ g. sym (look_ascii t at h 1 g refl)) (λ g. not_both y (word_high (get_or t at 0) g)) (split (get_or t at 0) 0x80)
 
   -- any other begins no character that it goes on with
   pub word_stops : {k a : ℕ} → goes_on_in Word (get_or t at 0) ≡ false → stretch.StretchOf t (Goes Word) a k at → Ends Word t a k at
   word_stops n p = record { passed = p; stops = λ c w f. ⊎_elim (λ g. low c w g f) (λ g. word_high c (at_high t at g f)) (split (get_or t at 0) 0x80) }
     where
-      low : (c w : ℕ) → get_or t at 0 < 0x80 → look_at t at ≡ look.Char c w → goes_on_in Word c ≡ false
+      low : (c w : ℕ) → get_or t at 0 < 0x80 → look_at t at ≡ char_found c w → goes_on_in Word c ≡ false
       low c w g f = ap (goes_on_in Word) (sym (char_is (look_ascii t at h 1 g refl ∙ f))) ∙ n
 
 module _ (what : Stretch) (t : List ℕ) (s : Cursor) where
@@ -88,7 +89,7 @@ module _ (what : Stretch) (t : List ℕ) (s : Cursor) where
   abbrev after : ℕ → Position
   after k = advanced_by k s.place
 
-  plain : (k b c w : ℕ) → look_at t b ≡ look.Char c w → Goes what c → Plain (stretch_rule what) t after (λ b r. r) k b w
+  plain : (k b c w : ℕ) → look_at t b ≡ char_found c w → Goes what c → Plain (stretch_rule what) t after (λ b r. r) k b w
   plain k b c w e y = plain_turn (stretch_rule what) t after (λ b r. r) e (rw (y, advanced_by_more k s.place)) (λ r. refl)
 
   passed : {k b : ℕ} → stretch.StretchOf t (Goes what) s.at k b → stretch_end what t s ≡ run_at (stretch_rule what) t b (after k)
@@ -101,8 +102,8 @@ module _ (what : Stretch) (t : List ℕ) (s : Cursor) where
   ended {k} {b} e = passed e.passed ∙ by (look_at t b) refl
     where
       by : (x : Look) → look_at t b ≡ x → run_at (stretch_rule what) t b (after k) ≡ cursor b (after k)
-      by (look.Char c w) f = move_over (stretch_rule what) t b (after k) (is_over (stretch_rule what) t b (after k) f (rw (e.stops c w f)))
-      by look.End f = move_over (stretch_rule what) t b (after k) (at_end_lem (stretch_rule what) t b (after k) f)
+      by (Some (c, w)) f = move_over (stretch_rule what) t b (after k) (is_over (stretch_rule what) t b (after k) f (rw (e.stops c w f)))
+      by None f = move_over (stretch_rule what) t b (after k) (at_end_lem (stretch_rule what) t b (after k) f)
 
 -- ---- where it ends: at its start or behind it, within the text
 module _ (what : Stretch) (t : List ℕ) where
@@ -115,7 +116,7 @@ module _ (what : Stretch) (t : List ℕ) where
       (λ at e p. rw (move_over (stretch_rule what) t at p (at_end_lem (stretch_rule what) t at p e)) (omega arith, λ h. h))
       (λ at c w e ih p. turned at c w e ih p (goes_on_in what c) refl)
     where
-      turned : (at c w : ℕ) → look_at t at ≡ look.Char c w → ((p : Position) → Reached (at + w) p) → (p : Position) (b : Bool) → goes_on_in what c ≡ b → Reached at p
+      turned : (at c w : ℕ) → look_at t at ≡ char_found c w → ((p : Position) → Reached (at + w) p) → (p : Position) (b : Bool) → goes_on_in what c ≡ b → Reached at p
       turned at c w e ih p true y =
           let h = at_width t at e in
           let r = ih (advanced p) in

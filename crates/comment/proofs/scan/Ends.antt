@@ -1,4 +1,5 @@
 -- Where a scan of a comment ends: at its start or behind it, within the text, and where a character begins if one does at its start. Assumes nothing.
+use Rattle.std.specs.Prelude.{None, Some}
 use Prim.Native.Nat.{ℕ, zero, suc, ◌+◌, ◌≤◌}
 use native.Mathlib.Omega.{arith}
 use native.Mathlib.Nat.{add-zero}
@@ -10,8 +11,7 @@ use lib.ListN.{length}
 use Rattle.basis.specs.Pick.{both}
 use Rattle.basis.proofs.Cases.{pick_cases}
 use Rattle.utf8.specs.Table.{ch, chars, chars_at, edge, look_at}
-use Rattle.utf8.specs.declared.Look.{Look}
-use Rattle.utf8.specs.declared.Look.TheVariants.{Char, End}
+use Rattle.utf8.specs.Looks.{Look, char_found}
 use Rattle.utf8.proofs.Laws.{at_width, chars_char, chars_end, by_chars}
 use Rattle.utf8.proofs.Edges.{edge_step}
 use Rattle.chars.specs.Scan.{Turn, on_turn, follows, widths, run, run_at}
@@ -30,7 +30,7 @@ module _ (t : List ℕ) where
   stays : (at : ℕ) → Reached t at at
   stays at = record { forward = omega arith; within = λ l. l; edges = λ b. b }
 
-  before : {at c w n : ℕ} → look_at t at ≡ Char c w → Reached t (at + w) n → Reached t at n
+  before : {at c w n : ℕ} → look_at t at ≡ char_found c w → Reached t (at + w) n → Reached t at n
   before {at} e r =
       let h = at_width t at e in
       record { forward = let k = r.forward in omega arith; within = λ l. r.within h.1; edges = λ b. r.edges (edge_step t at b e) }
@@ -41,8 +41,8 @@ module _ (t : List ℕ) where
   next_one at = go (look_at t at) refl
     where
       go : (x : Look) → look_at t at ≡ x → Reached t at (at + widths 1 (chars_at t at))
-      go (Char c w) e = rw (chars_char t at e, add-zero) (before e (stays (at + w)))
-      go End e = rw (chars_end t at e, add-zero) (stays at)
+      go (Some (c, w)) e = rw (chars_char t at e, add-zero) (before e (stays (at + w)))
+      go None e = rw (chars_end t at e, add-zero) (stays at)
 
   module _ (at c w : ℕ) (rest : ℕ → Inside → Comment) (h : (k : ℕ) (s : Inside) → Reached t (at + w) (rest k s).cursor.at) where
     abbrev Turned : Turn Inside (Unit {0}) Comment → Type 0
@@ -63,7 +63,7 @@ module _ (t : List ℕ) where
       (λ at e k s. rw (chars_end t at e) (stays at))
       (λ at c w e ih k s. rw (chars_char t at e) (passes at c w e ih k s))
     where
-      passes : (at c w : ℕ) → look_at t at ≡ Char c w → ((k : ℕ) (s : Inside) → Reached t (at + w) (run comment_rule k (chars_at t (at + w)) (at + w) s).cursor.at) → (k : ℕ) (s : Inside)
+      passes : (at c w : ℕ) → look_at t at ≡ char_found c w → ((k : ℕ) (s : Inside) → Reached t (at + w) (run comment_rule k (chars_at t (at + w)) (at + w) s).cursor.at) → (k : ℕ) (s : Inside)
           → Reached t at (run comment_rule k (ch c w ∷ chars_at t (at + w)) at s).cursor.at
       passes at c w e ih zero s = before e (turned at c w (λ k r. run comment_rule k (chars_at t (at + w)) (at + w) r) ih s)
       passes at c w e ih (suc k) s = before e (ih k s)

@@ -1,4 +1,5 @@
 -- The table of returns in front of the definition, row by row. Assumes nothing.
+use Rattle.std.specs.Prelude.{Err, Ok}
 use Prim.Native.Nat.{ℕ}
 use mathlib.Core.List.{List, [], ◌∷◌}
 use mathlib.Core.Path.{◌≡◌, refl}
@@ -10,8 +11,7 @@ use Rattle.door.specs.Door.{text_of, door_of}
 use Rattle.chars.specs.Scan.{run, run_at, widths}
 use Rattle.fault.specs.Faults.{fault}
 use Rattle.comment.specs.Block.{comment_at, comment_turn, comment_of, comment_refuses, scan_block_comment_of}
-use Rattle.comment.specs.declared.scan.Commented.{Commented}
-use Rattle.comment.specs.declared.scan.Commented.TheVariants.{Done, Refused}
+use Rattle.comment.specs.Answer.{Commented}
 
 -- what an example computes with: to unfold this is to unfold all that its line names
 scan_computes : Unit {0}
@@ -23,7 +23,7 @@ abbrev scans : ℕ → List ℕ → Commented
 scans level t = scan_block_comment_of t 0 (given 1 1) level
 
 abbrev reached : ℕ → ℕ → ℕ → ℕ → Commented
-reached level at line column = Done (comment_at level (cursor at (given line column)))
+reached level at line column = Ok (comment_at level (cursor at (given line column)))
 
 pub returned :
     (scans 1 (word "a*/b") ≡ reached 0 3 1 4)
@@ -40,11 +40,11 @@ returned = (refl, refl, refl, refl, refl, refl, refl, refl, refl)
 
 -- the arguments that are refused: a text that is not UTF-8, an offset past the end and one inside a character, line 0, and the levels next to the range
 pub refused :
-    (scan_block_comment_of (0x80 ∷ []) 0 (given 1 1) 1 ≡ Refused (fault 1 (given 1 1)))
-    × (scan_block_comment_of [] 1 (given 1 1) 1 ≡ Refused (fault 3 (given 1 1)))
-    × (scan_block_comment_of (0xC3 ∷ 0xA9 ∷ []) 1 (given 1 1) 1 ≡ Refused (fault 3 (given 1 1)))
-    × (scan_block_comment_of [] 0 (given 0 1) 1 ≡ Refused (fault 3 (given 0 1)))
-    × (scans 0 [] ≡ Refused (fault 3 (given 1 1)))
-    × (scans 65536 [] ≡ Refused (fault 3 (given 1 1)))
+    (scan_block_comment_of (0x80 ∷ []) 0 (given 1 1) 1 ≡ Err (fault 1 (given 1 1)))
+    × (scan_block_comment_of [] 1 (given 1 1) 1 ≡ Err (fault 3 (given 1 1)))
+    × (scan_block_comment_of (0xC3 ∷ 0xA9 ∷ []) 1 (given 1 1) 1 ≡ Err (fault 3 (given 1 1)))
+    × (scan_block_comment_of [] 0 (given 0 1) 1 ≡ Err (fault 3 (given 0 1)))
+    × (scans 0 [] ≡ Err (fault 3 (given 1 1)))
+    × (scans 65536 [] ≡ Err (fault 3 (given 1 1)))
 unfolding scan_computes
 refused = (refl, refl, refl, refl, refl, refl)

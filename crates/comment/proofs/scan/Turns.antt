@@ -1,4 +1,7 @@
 -- The turn of a block comment, for each way through the code, and what it leaves of the scan. Assumes nothing.
+use Rattle.chars.specs.Takes.{char_taken}
+use Rattle.utf8.specs.Looks.{char_found}
+use Rattle.std.specs.Prelude.{None}
 use Prim.Native.Nat.{ℕ, ◌+◌, ◌-◌, ◌≤◌, ◌<◌}
 use native.Mathlib.Omega.{arith}
 use native.Mathlib.Nat.{add-zero}
@@ -13,13 +16,11 @@ use Rattle.position.specs.declared.Position.{Position}
 use Rattle.position.specs.Place.{advanced, advanced_by, lined}
 use Rattle.position.proofs.Moves.{advanced_by_none, advanced_by_more}
 use Rattle.utf8.specs.Table.{chars_at, look_at}
-use Rattle.utf8.specs.declared.Look.TheVariants.{Char}
 use Rattle.utf8.proofs.Laws.{at_width, chars_char}
 use Rattle.chars.specs.Cursors.{cursor, eat_next_of}
 use Rattle.chars.specs.Scan.{follows, widths, run_at, Move, on, over}
 use Rattle.chars.specs.Stretch.{StretchOf, Other}
 use Rattle.chars.specs.declared.cursor.Cursor.{Cursor}
-use Rattle.chars.specs.declared.cursor.Taken.TheVariants as taken
 use Rattle.chars.proofs.Cursors.{Took, ate_took, ate_ended}
 use Rattle.chars.proofs.Follows.{followed, other_follows, nothing_follows}
 use Rattle.chars.proofs.Scans.{move_on, move_over, at_end_lem, one_on, two_on, is_over}
@@ -32,7 +33,7 @@ use Rattle.comment.specs.declared.scan.Led.TheVariants.{On, Over}
 
 -- ---- characters taken
 -- a cursor behind a character is further on, and within the text
-pub further_on : (t : List ℕ) (s : Cursor) {c : ℕ} {next : Cursor} → eat_next_of t s ≡ taken.Char c next → (s.at < next.at) × (next.at ≤ length t)
+pub further_on : (t : List ℕ) (s : Cursor) {c : ℕ} {next : Cursor} → eat_next_of t s ≡ char_taken c next → (s.at < next.at) × (next.at ≤ length t)
 further_on t s e =
     let k = ate_took t s e in
     let h = at_width t s.at k.found in
@@ -44,40 +45,40 @@ still_fine n level from f h l u = (record { low = l; high = omega arith; within 
 
 -- a character taken if it is the one asked for
 module _ (t : List ℕ) (s : Cursor) (c : ℕ) where
-  module _ {d : ℕ} {next : Cursor} (e : eat_next_of t s ≡ taken.Char d next) where
-    pub eaten : d ≡ c → eat_if_of t s c ≡ taken.Char d next
+  module _ {d : ℕ} {next : Cursor} (e : eat_next_of t s ≡ char_taken d next) where
+    pub eaten : d ≡ c → eat_if_of t s c ≡ char_taken d next
     unfolding eat_if_of
     eaten h = rw (followed t s.at c (ate_took t s e).found h, e)
 
-    pub another : (d ≡ c → ⊥) → eat_if_of t s c ≡ taken.End
+    pub another : (d ≡ c → ⊥) → eat_if_of t s c ≡ None
     unfolding eat_if_of
     another h = rw (other_follows t s.at c (ate_took t s e).found h)
 
-  pub none_there : eat_next_of t s ≡ taken.End → eat_if_of t s c ≡ taken.End
+  pub none_there : eat_next_of t s ≡ None → eat_if_of t s c ≡ None
   unfolding eat_if_of
   none_there e = rw (nothing_follows t s.at c (ate_ended t s e))
 
-  is_it : {d w : ℕ} → look_at t s.at ≡ Char d w → follows c (chars_at t s.at) ≡ true → d ≡ c
+  is_it : {d w : ℕ} → look_at t s.at ≡ char_found d w → follows c (chars_at t s.at) ≡ true → d ≡ c
   is_it {d} e h = eqb-true d c (rw (chars_char t s.at e) at h)
 
-  pub if_took : {d : ℕ} {next : Cursor} → eat_if_of t s c ≡ taken.Char d next → (eat_next_of t s ≡ taken.Char d next) × (d ≡ c)
+  pub if_took : {d : ℕ} {next : Cursor} → eat_if_of t s c ≡ char_taken d next → (eat_next_of t s ≡ char_taken d next) × (d ≡ c)
   unfolding eat_if_of
   if_took {d} {next} e = go (follows c (chars_at t s.at)) refl e
     where
-      go : (b : Bool) → follows c (chars_at t s.at) ≡ b → pick b (eat_next_of t s) taken.End ≡ taken.Char d next → (eat_next_of t s ≡ taken.Char d next) × (d ≡ c)
+      go : (b : Bool) → follows c (chars_at t s.at) ≡ b → pick b (eat_next_of t s) None ≡ char_taken d next → (eat_next_of t s ≡ char_taken d next) × (d ≡ c)
       go true q h = (h, is_it (ate_took t s h).found q)
       go false q h = absurd (let z : ◌≡◌ {A = ℕ} 0 1 = cc in omega arith)
 
-  pub if_none : eat_if_of t s c ≡ taken.End → follows c (chars_at t s.at) ≡ false
+  pub if_none : eat_if_of t s c ≡ None → follows c (chars_at t s.at) ≡ false
   unfolding eat_if_of
   if_none e = go (follows c (chars_at t s.at)) refl e
     where
-      go : (b : Bool) → follows c (chars_at t s.at) ≡ b → pick b (eat_next_of t s) taken.End ≡ taken.End → follows c (chars_at t s.at) ≡ false
+      go : (b : Bool) → follows c (chars_at t s.at) ≡ b → pick b (eat_next_of t s) None ≡ None → follows c (chars_at t s.at) ≡ false
       go true q h = not_both q (nothing_follows t s.at c (ate_ended t s h))
       go false q h = q
 
 -- the same, of two characters
-pub twice_on : (t : List ℕ) (n : ℕ) (next : Cursor) (c : ℕ) {d : ℕ} {after : Cursor} → (n < next.at) × (next.at ≤ length t) → eat_if_of t next c ≡ taken.Char d after → (n < after.at) × (after.at ≤ length t)
+pub twice_on : (t : List ℕ) (n : ℕ) (next : Cursor) (c : ℕ) {d : ℕ} {after : Cursor} → (n < next.at) × (next.at ≤ length t) → eat_if_of t next c ≡ char_taken d after → (n < after.at) × (after.at ≤ length t)
 twice_on t n next c h e = let k = further_on t next (if_took t next c e).0 in (omega arith, omega arith)
 
 -- ---- the turn, for each way
@@ -85,40 +86,40 @@ module _ (t : List ℕ) (level : ℕ) (from : Cursor) where
   abbrev here : Inside
   here = inside level from.place
 
-  pub ends : eat_next_of t from ≡ taken.End → Over level from ≡ as_led (move_of t level from)
+  pub ends : eat_next_of t from ≡ None → Over level from ≡ as_led (move_of t level from)
   unfolding move_of
   ends e = sym (ap as_led (at_end_lem comment_rule t from.at here (ate_ended t from e)))
 
-  module _ {c : ℕ} {next : Cursor} (e : eat_next_of t from ≡ taken.Char c next) where
+  module _ {c : ℕ} {next : Cursor} (e : eat_next_of t from ≡ char_taken c next) where
     abbrev took : Took t from.at (advanced from.place) c next
     took = ate_took t from e
 
     -- what stands behind it, as the rule asks it
-    next_not : (d : ℕ) → eat_if_of t next d ≡ taken.End → follows d (chars_at t (from.at + took.width)) ≡ false
+    next_not : (d : ℕ) → eat_if_of t next d ≡ None → follows d (chars_at t (from.at + took.width)) ≡ false
     next_not d f = rw (← ap (λ (x : Cursor). x.at) took.stands) (if_none t next d f)
 
     -- a pair, and what stands behind it
-    pair : (d : ℕ) {b : ℕ} {after : Cursor} → eat_if_of t next d ≡ taken.Char b after
+    pair : (d : ℕ) {b : ℕ} {after : Cursor} → eat_if_of t next d ≡ char_taken b after
         → Took t (from.at + took.width) (advanced (advanced from.place)) d after
     pair d f =
         let k = if_took t next d f in
         rw (← k.1, ← ap (λ (x : Cursor). x.at) took.stands, ← ap (λ (x : Cursor). x.place) took.stands) (ate_took t next k.0)
 
-    pub slash : c ≡ 0x2F → eat_if_of t next 0x2A ≡ taken.End → On level next ≡ as_led (move_of t level from)
+    pub slash : c ≡ 0x2F → eat_if_of t next 0x2A ≡ None → On level next ≡ as_led (move_of t level from)
     unfolding move_of comment_turn
     slash h f = rw took.stands (sym (ap as_led (one_on comment_rule t from.at here took.found (rw (eq-eqb c 0x2F h, next_not 0x2A f, ne_eqb c 0x2A (λ q. omega arith), ne_eqb c 0x0A (λ q. omega arith))))))
 
-    pub opens : c ≡ 0x2F → {d : ℕ} {after : Cursor} → eat_if_of t next 0x2A ≡ taken.Char d after → On (level + 1) after ≡ as_led (move_of t level from)
+    pub opens : c ≡ 0x2F → {d : ℕ} {after : Cursor} → eat_if_of t next 0x2A ≡ char_taken d after → On (level + 1) after ≡ as_led (move_of t level from)
     unfolding move_of comment_turn
     opens h f =
         let k = pair 0x2A f in
         rw k.stands (sym (ap as_led (two_on comment_rule t from.at here took.found k.found (rw (eq-eqb c 0x2F h, followed t _ 0x2A k.found refl)))))
 
-    pub star : c ≡ 0x2A → eat_if_of t next 0x2F ≡ taken.End → On level next ≡ as_led (move_of t level from)
+    pub star : c ≡ 0x2A → eat_if_of t next 0x2F ≡ None → On level next ≡ as_led (move_of t level from)
     unfolding move_of comment_turn
     star h f = rw took.stands (sym (ap as_led (one_on comment_rule t from.at here took.found (rw (ne_eqb c 0x2F (λ q. omega arith), eq-eqb c 0x2A h, next_not 0x2F f, ne_eqb c 0x0A (λ q. omega arith))))))
 
-    module _ (h : c ≡ 0x2A) {d : ℕ} {after : Cursor} (f : eat_if_of t next 0x2F ≡ taken.Char d after) where
+    module _ (h : c ≡ 0x2A) {d : ℕ} {after : Cursor} (f : eat_if_of t next 0x2F ≡ char_taken d after) where
       pub closes_last : level ≡ 1 → Over 0 after ≡ as_led (move_of t level from)
       unfolding move_of comment_turn widths
       closes_last n =
@@ -174,7 +175,7 @@ module _ (t : List ℕ) (level : ℕ) (from : Cursor) where
   abbrev after : ℕ → Inside
   after k = inside level (advanced_by k from.place)
 
-  one_passed : (k b c w : ℕ) → look_at t b ≡ Char c w → Plain c → stretches.Plain comment_rule t after (λ b r. r) k b w
+  one_passed : (k b c w : ℕ) → look_at t b ≡ char_found c w → Plain c → stretches.Plain comment_rule t after (λ b r. r) k b w
   unfolding comment_turn
   one_passed k b c w e y =
       let n = is_other 0x2F 0x2A 0x0A 0x0A 0x0A c y in

@@ -8,5 +8,5 @@ returns-then-is_scalar c = search digits_scalar
 pub returns-else-is_scalar : goal.returns-else-is_scalar
 returns-else-is_scalar c = search digits_none
 
-pub returns-in-Bad : goal.returns-in-Bad
-returns-in-Bad c = search digits_bad
+pub returns-in-Err : goal.returns-in-Err
+returns-in-Err c = search digits_bad

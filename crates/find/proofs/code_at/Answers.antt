@@ -7,4 +7,4 @@ pub returns-in_default : goal.returns-in_default
 returns-in_default c = ap code_of (sym (sym c.look_at.ensures ∙ c.in_default.is))
 
 pub returns : goal.returns
-returns c = ap code_of (sym (sym c.look_at.ensures ∙ c.in-Char.is))
+returns c = ap code_of (sym (sym c.look_at.ensures ∙ c.in-Some.is))

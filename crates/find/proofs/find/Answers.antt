@@ -1,36 +1,36 @@
 -- Each test leads on to the next law. A letter, `_` or a digit is not white, so it may be tested first.
+use Rattle.utf8.specs.Looks.{char_found}
 use Prim.Native.Nat.{ℕ, ◌+◌, ◌≤◌}
 use native.Mathlib.Omega.{arith}
 use mathlib.Core.Bool.{false}
 use mathlib.Core.Path.{◌≡◌, sym, ◌∙◌}
 use lib.ListN.{length}
 use Rattle.utf8.specs.Table.{look_at}
-use Rattle.utf8.specs.declared.Look.TheVariants.{Char}
 use Rattle.utf8.proofs.Laws.{at_width}
 use Rattle.classes.specs.Class.{is_numeric_digit}
 use Rattle.find.specs.Find.{begins_word}
 use Rattle.find.proofs.Begins.{nothing_more_lem, finds_white, finds_word, finds_digit, finds_mark}
 use Rattle.find.proofs.find.Goals as goal
-use Rattle.find.proofs.find.Goals.{Else-begins_word, Else-is_numeric_digit, In-Char}
+use Rattle.find.proofs.find.Goals.{Else-begins_word, Else-is_numeric_digit, In-Some}
 
 -- the character that was seen
-module _ (k : In-Char) where
+module _ (k : In-Some) where
   abbrev width : ℕ
-  width = k.in-Char.width
+  width = k.in-Some.width
 
-  seen : look_at k.args.text.now k.args.from.at ≡ Char k.in-Char.c width
-  seen = sym k.look_at.ensures ∙ k.in-Char.is
+  seen : look_at k.args.text.now k.args.from.at ≡ char_found k.in-Some.c width
+  seen = sym k.look_at.ensures ∙ k.in-Some.is
 
   wide : (1 ≤ width) × (k.args.from.at + width ≤ length k.args.text.now) × (width ≤ 4)
   wide = at_width _ _ seen
 
 -- the tests that failed, one behind the other
 module _ (k : Else-begins_word) where
-  word-not : begins_word k.in-Char.c ≡ false
+  word-not : begins_word k.in-Some.c ≡ false
   word-not = sym k.begins_word.ensures ∙ k.if-begins_word.false
 
 module _ (k : Else-is_numeric_digit) where
-  digit_not : is_numeric_digit k.in-Char.c ≡ false
+  digit_not : is_numeric_digit k.in-Some.c ≡ false
   digit_not = sym k.is_numeric_digit.ensures ∙ k.if-is_numeric_digit.false
 
 pub returns-in_default : goal.returns-in_default
@@ -41,20 +41,20 @@ overflow_add-next c = omega (arith, wide c)
 
 pub returns-then-begins_word : goal.returns-then-begins_word
 returns-then-begins_word c =
-    c.word.ensures ∙ rw c.advanced-place.ensures (sym (finds_word _ _ _ (seen (goal.at.returns-then-begins_word c).In-Char) (sym c.begins_word.ensures ∙ c.if-begins_word.true)))
+    c.word.ensures ∙ rw c.advanced-place.ensures (sym (finds_word _ _ _ (seen (goal.at.returns-then-begins_word c).In-Some) (sym c.begins_word.ensures ∙ c.if-begins_word.true)))
 
 pub returns-then-is_numeric_digit : goal.returns-then-is_numeric_digit
 returns-then-is_numeric_digit c =
-    rw (c.end_of.ensures.value, c.advanced-place.ensures) (sym (finds_digit _ _ _ (seen (goal.at.returns-then-is_numeric_digit c).In-Char) (word-not (goal.at.returns-then-is_numeric_digit c).Else-begins_word) (sym c.is_numeric_digit.ensures ∙ c.if-is_numeric_digit.true)))
+    rw (c.end_of.ensures.value, c.advanced-place.ensures) (sym (finds_digit _ _ _ (seen (goal.at.returns-then-is_numeric_digit c).In-Some) (word-not (goal.at.returns-then-is_numeric_digit c).Else-begins_word) (sym c.is_numeric_digit.ensures ∙ c.if-is_numeric_digit.true)))
 
 pub returns-then-is_white : goal.returns-then-is_white
 returns-then-is_white c =
-    c.white.ensures ∙ rw c.advanced-place.ensures (sym (finds_white _ _ _ _ (seen (goal.at.returns-then-is_white c).In-Char) (sym c.is_white.ensures ∙ c.if-is_white.true)))
+    c.white.ensures ∙ rw c.advanced-place.ensures (sym (finds_white _ _ _ _ (seen (goal.at.returns-then-is_white c).In-Some) (sym c.is_white.ensures ∙ c.if-is_white.true)))
 
 pub mark-requires : goal.mark-requires
-mark-requires c = (wide (goal.at.mark-requires c).In-Char).1
+mark-requires c = (wide (goal.at.mark-requires c).In-Some).1
 
 pub returns : goal.returns
 returns c =
     c.mark.ensures ∙ rw c.advanced-place.ensures
-    (sym (finds_mark _ _ _ (seen (goal.at.returns c).In-Char) (word-not (goal.at.returns c).Else-begins_word) (digit_not (goal.at.returns c).Else-is_numeric_digit) (sym c.is_white.ensures ∙ c.if-is_white.false)))
+    (sym (finds_mark _ _ _ (seen (goal.at.returns c).In-Some) (word-not (goal.at.returns c).Else-begins_word) (digit_not (goal.at.returns c).Else-is_numeric_digit) (sym c.is_white.ensures ∙ c.if-is_white.false)))

@@ -1,4 +1,5 @@
 -- What is skipped from here is what is skipped from the start.
+use Rattle.utf8.specs.Looks.{char_found}
 use Prim.Native.Nat.{ℕ, ◌+◌, ◌≤◌}
 use native.Mathlib.Omega.{arith}
 use mathlib.Core.Bool.{true}
@@ -6,15 +7,14 @@ use mathlib.Core.List.{List}
 use mathlib.Core.Path.{◌≡◌, sym, ◌∙◌}
 use lib.ListN.{length}
 use Rattle.utf8.specs.Table.{look_at}
-use Rattle.utf8.specs.declared.Look.TheVariants.{Char}
 use Rattle.utf8.proofs.Laws.{at_width}
 use Rattle.white.specs.White.{is_white}
 use Rattle.find.proofs.Skips.{skip_begun, skip_end, skip_beyond, skip_other, skip_line, skip_more}
 use Rattle.find.proofs.skip.Goals as goal
-use Rattle.find.proofs.skip.Goals.{In-Char, Then-is_white}
+use Rattle.find.proofs.skip.Goals.{In-Some, Then-is_white}
 
 -- the character that was seen
-module _ (k : In-Char) where
+module _ (k : In-Some) where
   abbrev text : List ℕ
   text = k.args.text.now
 
@@ -22,19 +22,19 @@ module _ (k : In-Char) where
   at = k.loop-c.at
 
   abbrev c : ℕ
-  c = k.in-Char.c
+  c = k.in-Some.c
 
   abbrev width : ℕ
-  width = k.in-Char.width
+  width = k.in-Some.width
 
-  seen : look_at text at ≡ Char c width
-  seen = sym k.look_at.ensures ∙ k.in-Char.is
+  seen : look_at text at ≡ char_found c width
+  seen = sym k.look_at.ensures ∙ k.in-Some.is
 
   wide : (1 ≤ width) × (at + width ≤ length text) × (width ≤ 4)
   wide = at_width text at seen
 
 -- it is white
-whitened : (k : Then-is_white) → is_white k.in-Char.c ≡ true
+whitened : (k : Then-is_white) → is_white k.in-Some.c ≡ true
 whitened k = sym k.is_white.ensures ∙ k.if-is_white.true
 
 pub loop-c-init : goal.loop-c-init
@@ -44,24 +44,24 @@ pub returns-in_default : goal.returns-in_default
 returns-in_default c = sym (skip_end _ _ _ c.loop-c.invariant (sym c.look_at.ensures ∙ c.in_default.is))
 
 pub returns-then-c-ge128 : goal.returns-then-c-ge128
-returns-then-c-ge128 c = sym (skip_beyond _ _ _ c.loop-c.invariant (seen (goal.at.returns-then-c-ge128 c).In-Char) c.if-c-ge128.true)
+returns-then-c-ge128 c = sym (skip_beyond _ _ _ c.loop-c.invariant (seen (goal.at.returns-then-c-ge128 c).In-Some) c.if-c-ge128.true)
 
 pub overflow_add-at : goal.overflow_add-at
-overflow_add-at c = omega (arith, wide (goal.at.overflow_add-at c).In-Char)
+overflow_add-at c = omega (arith, wide (goal.at.overflow_add-at c).In-Some)
 
 pub loop-c-smaller-then-c-eq-LF : goal.loop-c-smaller-then-c-eq-LF
-loop-c-smaller-then-c-eq-LF c = omega (arith, wide (goal.at.loop-c-smaller-then-c-eq-LF c).In-Char)
+loop-c-smaller-then-c-eq-LF c = omega (arith, wide (goal.at.loop-c-smaller-then-c-eq-LF c).In-Some)
 
 pub loop-c-preserved-then-c-eq-LF : goal.loop-c-preserved-then-c-eq-LF
 loop-c-preserved-then-c-eq-LF c =
-    rw (c.lined-place.ensures, c.advanced-place.ensures) (skip_line _ _ _ c.loop-c.invariant (seen (goal.at.loop-c-preserved-then-c-eq-LF c).In-Char) c.if-c-ge128.false (whitened (goal.at.loop-c-preserved-then-c-eq-LF c).Then-is_white) c.if-c-eq-LF.true)
+    rw (c.lined-place.ensures, c.advanced-place.ensures) (skip_line _ _ _ c.loop-c.invariant (seen (goal.at.loop-c-preserved-then-c-eq-LF c).In-Some) c.if-c-ge128.false (whitened (goal.at.loop-c-preserved-then-c-eq-LF c).Then-is_white) c.if-c-eq-LF.true)
 
 pub loop-c-smaller : goal.loop-c-smaller
-loop-c-smaller c = omega (arith, wide (goal.at.loop-c-smaller c).In-Char)
+loop-c-smaller c = omega (arith, wide (goal.at.loop-c-smaller c).In-Some)
 
 pub loop-c-preserved : goal.loop-c-preserved
 loop-c-preserved c =
-    rw c.advanced-place.ensures (skip_more _ _ _ c.loop-c.invariant (seen (goal.at.loop-c-preserved c).In-Char) c.if-c-ge128.false (whitened (goal.at.loop-c-preserved c).Then-is_white) c.if-c-eq-LF.false)
+    rw c.advanced-place.ensures (skip_more _ _ _ c.loop-c.invariant (seen (goal.at.loop-c-preserved c).In-Some) c.if-c-ge128.false (whitened (goal.at.loop-c-preserved c).Then-is_white) c.if-c-eq-LF.false)
 
 pub returns-else-is_white : goal.returns-else-is_white
-returns-else-is_white c = sym (skip_other _ _ _ c.loop-c.invariant (seen (goal.at.returns-else-is_white c).In-Char) (sym c.is_white.ensures ∙ c.if-is_white.false))
+returns-else-is_white c = sym (skip_other _ _ _ c.loop-c.invariant (seen (goal.at.returns-else-is_white c).In-Some) (sym c.is_white.ensures ∙ c.if-is_white.false))

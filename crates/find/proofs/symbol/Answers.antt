@@ -1,22 +1,22 @@
 -- The longest symbol, or 5.
+use Rattle.symbols.specs.Found.{symbol_as}
 use Prim.Native.Nat.{◌+◌, ◌≤◌, ◌<◌}
 use native.Mathlib.Omega.{arith}
 use mathlib.Core.Path.{◌≡◌, sym, ◌∙◌}
 use lib.ListN.{length}
 use Rattle.symbols.specs.Symbols.{longest_symbol_of}
-use Rattle.symbols.specs.declared.Longest.TheVariants.{Symbol}
 use Rattle.symbols.proofs.Longer.{offset_within}
 use Rattle.symbols.proofs.Standing.{from_offset}
 use Rattle.find.proofs.Begins.{a_symbol, no_symbol}
 use Rattle.find.proofs.symbol.Goals as goal
-use Rattle.find.proofs.symbol.Goals.{In-Symbol}
+use Rattle.find.proofs.symbol.Goals.{In-Some}
 
 -- the symbol that was found
-module _ (k : In-Symbol) where
-  found : longest_symbol_of k.args.text.now k.args.at ≡ Symbol k.in-Symbol.token k.in-Symbol.n
-  found = sym (from_offset _ _ _ k.longest_of.ensures) ∙ k.in-Symbol.is
+module _ (k : In-Some) where
+  found : longest_symbol_of k.args.text.now k.args.at ≡ symbol_as k.in-Some.token k.in-Some.n
+  found = sym (from_offset _ _ _ k.longest_of.ensures) ∙ k.in-Some.is
 
-  room : (0 < k.in-Symbol.n) × (k.args.at + k.in-Symbol.n ≤ length k.args.text.now)
+  room : (0 < k.in-Some.n) × (k.args.at + k.in-Some.n ≤ length k.args.text.now)
   room = offset_within _ _ _ _ found
 
 pub returns-in_default : goal.returns-in_default
@@ -27,7 +27,7 @@ pub overflow_sub-n : goal.overflow_sub-n
 overflow_sub-n c = omega (arith, room c)
 
 pub overflow_add-result : goal.overflow_add-result
-overflow_add-result c = omega (arith, room (goal.at.overflow_add-result c).In-Symbol)
+overflow_add-result c = omega (arith, room (goal.at.overflow_add-result c).In-Some)
 
 pub returns : goal.returns
-returns c = rw c.advanced_by-last.ensures (sym (a_symbol _ _ _ (found (goal.at.returns c).In-Symbol)))
+returns c = rw c.advanced_by-last.ensures (sym (a_symbol _ _ _ (found (goal.at.returns c).In-Some)))

@@ -1,25 +1,20 @@
--- What is still to be filled goes where the whole was to go: the stores left from here are those of the start.
-use mathlib.Core.Path.{refl, sym, ◌∙◌}
+-- The place is the bytes' own, or there is none.
+use Prim.Native.Nat.{ℕ}
+use mathlib.Core.Path.{◌≡◌, sym, ap, ◌∙◌}
 use native.Mathlib.Omega.{arith}
-use borrow.Author.Rules.{rules}
-use lib.ListN.{length-set, length-replicate}
-use Rattle.basis.proofs.Stores.{sets_fill, sets_none, stored_whole, after_whole, stored_none, after_none}
+use borrow.Rule.Slice.PartMut.{mid_len}
+use lib.ListN.{length, replicate, length-replicate}
+use Rattle.basis.proofs.Stores.{stored_none, after_none}
+use Rattle.lent.proofs.Places.{placed, placed_end}
 use Rattle.lent.proofs.fill.Goals as goal
 
-pub returns-then-out-at : goal.returns-then-out-at
-returns-then-out-at c = record { value = sym (after_none _ _ _ (omega arith)); out_after = sym (stored_none _ _ _ (omega arith)) }
-
-pub returns-then-out-at-2 : goal.returns-then-out-at-2
-returns-then-out-at-2 c = record { value = sym (after_none _ _ _ (rw (length-replicate _ _) (omega arith))); out_after = sym (stored_none _ _ _ (rw (length-replicate _ _) (omega arith))) }
-
-pub loop-left-init : goal.loop-left-init
-loop-left-init c = (search rules, refl, rw (length-replicate _ _) (omega arith), refl)
-
-pub bounds-out-w : goal.bounds-out-w
-bounds-out-w c = let given = c.args in omega (arith, length-replicate given.n given.b)
-
-pub loop-left-preserved : goal.loop-left-preserved
-loop-left-preserved c = (omega arith, simp length-set (omega arith), c.loop-left.invariant.2, c.loop-left.invariant.3 ∙ sets_fill _ _ _ _ c.loop-left-test.true)
+pub returns-in_default : goal.returns-in_default
+returns-in_default c = record { value = sym (after_none _ _ _ (rw (length-replicate _ _) (omega arith))); out_after = sym (stored_none _ _ _ (rw (length-replicate _ _) (omega arith))) }
 
 pub returns : goal.returns
-returns c = record { value = sym (after_whole _ _ _ c.loop-left.invariant.2 ∙ rw (length-replicate _ _) (omega arith)); out_after = sym (stored_whole _ _ _ c.loop-left.invariant.2 ∙ c.loop-left.invariant.3 ∙ sets_none _ _ _ _ c.loop-left-test.false) }
+returns c =
+    let l = c.args.out.now in
+    let whole = replicate c.args.n c.args.b in
+    let long : length whole ≡ c.args.n = length-replicate _ _ in
+    let same : c.fill.new.self ≡ whole = c.fill.ensures.after (λ y e. e) ∙ ap (λ (n : ℕ). replicate n c.args.b) (mid_len c.args.at c.in-Some.end l (omega arith) ∙ omega arith) in
+    record { value = placed_end l _ _ whole (omega arith) (omega arith); out_after = placed l _ _ whole (omega arith) (omega arith) _ same }

@@ -1,4 +1,5 @@
 -- By the branch that was taken.
+use native.Mathlib.Omega.{arith}
 use borrow.Author.Tests.{lt-ltb, le-ltb}
 use Rattle.listed.specs.Listing.{hex_digit}
 use Rattle.listed.proofs.digit.Goals as goal
@@ -7,6 +8,6 @@ pub returns-then-d-lt10 : goal.returns-then-d-lt10
 unfolding hex_digit
 returns-then-d-lt10 c = rw (lt-ltb _ _ c.if-d-lt10.true)
 
-pub returns : goal.returns
+pub returns-else-d-lt10 : goal.returns-else-d-lt10
 unfolding hex_digit
-returns c = rw (le-ltb _ _ c.if-d-lt10.false)
+returns-else-d-lt10 c = rw (le-ltb _ _ c.if-d-lt10.false) (omega (arith, c.if-d-lt10.false))

@@ -1,5 +1,5 @@
 -- The lines that are left go where all were to go.
-use Prim.Native.Nat.{◌-◌, ◌*◌, ◌≤◌}
+use Prim.Native.Nat.{◌-◌, ◌*◌}
 use mathlib.Core.Path.{◌≡◌}
 use lib.ListN.{length, drop}
 use Rattle.listed.specs.Texts.{writing, puts}
@@ -8,9 +8,5 @@ use Rattle.listed.proofs.put_entries.Given as goal
 
 abbrev pub invariant-loop-n : goal.invariant-loop-n
 invariant-loop-n l =
-    (l.n ≤ l.listed)
-    × (length l.out ≡ length l.initial.out)
+    (length l.out ≡ length l.initial.out)
     × (puts (writing l.initial.out 0) (entries_lines l.script l.literals l.listed l.entries) ≡ puts (writing l.out l.at) (entries_lines l.script l.literals (l.listed - l.n) (drop (5 * l.n) l.entries)))
-
-abbrev pub decreases-loop-n : goal.decreases-loop-n
-decreases-loop-n l = l.listed - l.n

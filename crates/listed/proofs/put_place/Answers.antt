@@ -15,16 +15,16 @@ unfolding shown_of
 overflow_add-result c =
     let args = c.args in
     let within = part_within args.out.now args.at (debug_of args.place) c.if-out-at.false in
-    search (rules, rw (← c.write.ensures.value, c.in-Done.is) at within)
+    search (rules, rw (← c.write.ensures.value, c.in-Ok.is) at within)
 
-pub returns-in-Done : goal.returns-in-Done
+pub returns-in-Ok : goal.returns-in-Ok
 unfolding shown_of
-returns-in-Done c =
+returns-in-Ok c =
     let h = c.if-out-at.false in
-    put_told _ _ _ (ap (next_of _) (sym c.in-Done.is ∙ c.write.ensures.value) ∙ part_next _ _ _ h) (rw c.write.ensures.out_after (part_memory _ _ _ h))
+    put_told _ _ _ (ap (next_of _) (sym c.in-Ok.is ∙ c.write.ensures.value) ∙ part_next _ _ _ h) (rw c.write.ensures.out_after (part_memory _ _ _ h))
 
-pub returns-in-Refused : goal.returns-in-Refused
+pub returns-in-Err : goal.returns-in-Err
 unfolding shown_of
-returns-in-Refused c =
+returns-in-Err c =
     let h = c.if-out-at.false in
-    put_told _ _ _ (ap (next_of _) (sym c.in-Refused.is ∙ c.write.ensures.value) ∙ part_next _ _ _ h) (rw c.write.ensures.out_after (part_memory _ _ _ h))
+    put_told _ _ _ (ap (next_of _) (sym c.in-Err.is ∙ c.write.ensures.value) ∙ part_next _ _ _ h) (rw c.write.ensures.out_after (part_memory _ _ _ h))

@@ -1,23 +1,27 @@
--- What is still to be spelt goes where the whole was to go: the stores left from here are those of the start.
-use mathlib.Core.Path.{refl, sym, ◌∙◌}
+-- The place is the number's own, or there is none.
 use native.Mathlib.Omega.{arith}
-use borrow.Author.Rules.{rules}
-use lib.ListN.{length-set}
-use Rattle.basis.proofs.Stores.{stored_whole, after_whole, stored_none, after_none}
-use Rattle.numbers.proofs.Rows.{length_spell, sets_spell, sets_spelt}
+use mathlib.Core.Path.{◌≡◌, sym, ◌∙◌}
+use lib.ListN.{length}
+use borrow.Rule.Slice.PartMut.{mid_len}
+use Rattle.basis.proofs.Stores.{stored_none, after_none}
+use Rattle.lent.proofs.Places.{placed, placed_end}
+use Rattle.numbers.specs.Spell.{spell}
+use Rattle.numbers.proofs.Rows.{length_spell, spell_on, spell_end}
 use Rattle.numbers.proofs.put.Goals as goal
 
-pub returns-then-out-at : goal.returns-then-out-at
-returns-then-out-at c = record { value = sym (after_none _ _ _ (omega arith)); out_after = sym (stored_none _ _ _ (omega arith)) }
+pub returns-in_default : goal.returns-in_default
+returns-in_default c = record { value = sym (after_none _ _ _ (rw (length_spell _ _) (omega arith))); out_after = sym (stored_none _ _ _ (rw (length_spell _ _) (omega arith))) }
 
-pub returns-then-out-at-2 : goal.returns-then-out-at-2
-returns-then-out-at-2 c = record { value = sym (after_none _ _ _ (rw (length_spell _ _) (omega arith))); out_after = sym (stored_none _ _ _ (rw (length_spell _ _) (omega arith))) }
-
-pub loop-left-init : goal.loop-left-init
-loop-left-init c = (search rules, refl, omega arith, refl)
-
-pub loop-left-preserved : goal.loop-left-preserved
-loop-left-preserved c = (omega arith, simp length-set (omega arith), c.loop-left.invariant.2, c.loop-left.invariant.3 ∙ sets_spell _ _ _ _ c.loop-left-test.true)
+pub loop-byte-preserved : goal.loop-byte-preserved
+loop-byte-preserved c =
+    let long : length c.loop-byte.byte-items ≡ c.args.width = c.loop-byte.auto.byte-items ∙ mid_len c.args.at c.in-Some.end c.args.out.now (omega arith) ∙ omega arith in
+    spell_on c.loop-byte.byte-items _ _ c.loop-byte.rest long (omega arith) ∙ c.loop-byte.invariant
 
 pub returns : goal.returns
-returns c = record { value = sym (after_whole _ _ _ (rw (length_spell _ _) c.loop-left.invariant.2) ∙ rw (length_spell _ _) (omega arith)); out_after = sym (stored_whole _ _ _ (rw (length_spell _ _) c.loop-left.invariant.2) ∙ c.loop-left.invariant.3 ∙ sets_spelt _ _ _ _ c.loop-left-test.false) }
+returns c =
+    let l = c.args.out.now in
+    let whole = spell c.args.width c.args.n in
+    let wide : length whole ≡ c.args.width = length_spell _ _ in
+    let long : length c.loop-byte.byte-items ≡ c.args.width = c.loop-byte.auto.byte-items ∙ mid_len c.args.at c.in-Some.end l (omega arith) ∙ omega arith in
+    let same = sym (spell_end c.loop-byte.byte-items _ _ c.loop-byte.rest long (omega arith)) ∙ c.loop-byte.invariant in
+    record { value = placed_end l _ _ whole (omega arith) (omega arith); out_after = placed l _ _ whole (omega arith) (omega arith) _ same }

@@ -10,13 +10,13 @@ returns-then-width-eq0 c = record { value = none_done _ _ _ c.if-width-eq0.true;
 pub returns-then-out-width : goal.returns-then-out-width
 returns-then-out-width c = let short = row_short _ c.args.row.now c.args.out.now c.if-width-eq0.false c.if-out-width.true in record { value = sym (refused _ _ short); out_after = sym (untouched _ _ short) }
 
-pub loop-i-init : goal.loop-i-init
-loop-i-init c =
+pub loop-n-init : goal.loop-n-init
+loop-n-init c =
     begun _ _ _ (row_fits _ c.args.row.now c.args.out.now c.if-width-eq0.false c.if-out-width.false)
 
-pub loop-i-preserved : goal.loop-i-preserved
-loop-i-preserved c =
-    goes_on c.loop-i.invariant c.loop-i-test.true c.put-at.ensures.value c.put-at.ensures.out_after
+pub loop-n-preserved : goal.loop-n-preserved
+loop-n-preserved c =
+    goes_on c.loop-n.invariant c.loop-n-test.true c.put-at.ensures.value c.put-at.ensures.out_after
 
 pub returns : goal.returns
-returns c = record { value = row_done c.loop-i.invariant c.loop-i-test.false; out_after = row_left c.loop-i.invariant c.loop-i-test.false }
+returns c = record { value = row_done c.loop-n.invariant c.loop-n-test.false; out_after = row_left c.loop-n.invariant c.loop-n-test.false }

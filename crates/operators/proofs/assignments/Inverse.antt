@@ -1,4 +1,5 @@
 -- The operator-assignment pairs invert each other: one computed test over the pairs, and the law that what is found is a pair. Assumes nothing.
+use Rattle.std.specs.Prelude.{None, Some}
 use Prim.Native.Nat.{ℕ}
 use native.Mathlib.Omega.{arith}
 use mathlib.Core.Bool.{Bool, true, false}
@@ -9,8 +10,7 @@ use borrow.Author.Tests.{eqb-true}
 use Rattle.basis.specs.Pick.{pick, both, either}
 use Rattle.basis.proofs.Cases.{pick_cases, true_left, true_right}
 use Rattle.token.specs.Tokens.{among_tokens}
-use Rattle.token.specs.declared.Lookup.{Lookup}
-use Rattle.token.specs.declared.Lookup.TheVariants.{Some, None}
+use Rattle.token.specs.Lookups.{Lookup}
 use Rattle.operators.specs.Assignments.{Pair, pairs, assignments, operators, is_op_assignment, has_op_assignment, operator_in, assignment_in, base_op_of, op_assignment_of}
 use Rattle.token.proofs.Arms.{same_lookup, same_lookup_lem}
 

@@ -1,4 +1,5 @@
 -- The numbers of a place are what the Rust's Options give with `unwrap_or(0)`; a new place is the one given. Assumes nothing.
+use Rattle.std.specs.Prelude.{Err, None, Ok, Some}
 use Prim.Native.Nat.{ℕ}
 use mathlib.Core.Bool.{false}
 use mathlib.Core.Path.{◌≡◌, refl, sym, ap}
@@ -9,9 +10,7 @@ use Rattle.position.specs.Place.{none, given, is_none, line_number, column_numbe
 use Rattle.position.specs.declared.Position.{Position}
 use Rattle.position.proofs.Moves.{only_none}
 use Rattle.places.specs.Coordinates.{new_of, numbered, line_option, position_option, unwrap_or}
-use Rattle.places.specs.declared.coordinates.Placed.TheVariants.{At, Refused}
-use Rattle.places.specs.declared.coordinates.Coordinate.{Coordinate}
-use Rattle.places.specs.declared.coordinates.Coordinate.TheVariants.{Some, None}
+use Rattle.places.specs.Answer.{Coordinate}
 
 module _ (p : Position) where
   pub line_number_lem : unwrap_or (line_option p) 0 ≡ line_number p
@@ -37,10 +36,10 @@ module _ (p : Position) where
 
 -- a new place is the one given, and line 0 is refused
 module _ (l c : ℕ) where
-  pub new_given : (l ≡ 0 → ⊥) → new_of l c ≡ At (given l c)
+  pub new_given : (l ≡ 0 → ⊥) → new_of l c ≡ Ok (given l c)
   unfolding new_of
   new_given h = rw (ne_eqb l 0 h)
 
-  pub new_refused : l ≡ 0 → new_of l c ≡ Refused 3
+  pub new_refused : l ≡ 0 → new_of l c ≡ Err 3
   unfolding new_of
   new_refused h = rw (eq-eqb l 0 h)

@@ -1,4 +1,6 @@
 -- What holds of every opening, proved by its turns. Assumes nothing.
+use Rattle.utf8.specs.Looks.{char_found}
+use Rattle.std.specs.Prelude.{Err, Ok}
 use Prim.Native.Nat.{ℕ, ◌+◌, ◌≤◌}
 use native.Mathlib.Omega.{arith}
 use mathlib.Core.List.{List, ◌∷◌}
@@ -9,29 +11,27 @@ use Rattle.basis.proofs.Cases.{pick_cases}
 use Rattle.position.specs.declared.Position.{Position}
 use Rattle.position.specs.Place.{advanced}
 use Rattle.utf8.specs.Table.{ch, chars_at, look_at}
-use Rattle.utf8.specs.declared.Look.TheVariants.{Char}
 use Rattle.utf8.proofs.Laws.{chars_char, chars_end, by_chars}
 use Rattle.chars.specs.Scan.{Turn, on_turn, run, run_at}
 use Rattle.chars.specs.declared.cursor.Cursor.{Cursor}
 use Rattle.chars.proofs.Reaches.{Reached, there, past}
 use Rattle.classes.specs.Marks.{quote, hash}
 use Rattle.raw.specs.Opening.{Counted, counted, cut_off, opening_turn, opening_rule, opened_of}
-use Rattle.raw.specs.declared.open.Opened.{Opened}
-use Rattle.raw.specs.declared.open.Opened.TheVariants.{At, Refused}
+use Rattle.raw.specs.Answer.{Opened}
 
 -- from an offset, it leads to a body that a hash at least closes and that begins behind whole characters, or to a refusal by a number up to 5
 abbrev pub Leads : List ℕ → ℕ → Opened → Type 0
-Leads t at (At k from) = (1 ≤ k) × Reached t at from.at
-Leads t at (Refused f) = f.fault.number ≤ 5
+Leads t at (Ok (k, from)) = (1 ≤ k) × Reached t at from.at
+Leads t at (Err f) = f.fault.number ≤ 5
 
 module _ (t : List ℕ) where
   -- a character goes before it
-  before : (at c w : ℕ) (r : Opened) → look_at t at ≡ Char c w → Leads t (at + w) r → Leads t at r
-  before at c w (At k from) e h = (h.0, past e h.1)
-  before at c w (Refused f) e h = h
+  before : (at c w : ℕ) (r : Opened) → look_at t at ≡ char_found c w → Leads t (at + w) r → Leads t at r
+  before at c w (Ok (k, from)) e h = (h.0, past e h.1)
+  before at c w (Err f) e h = h
 
   module _ (start : Position) where
-    module _ (at c w : ℕ) (e : look_at t at ≡ Char c w) (rest : ℕ → Counted → Opened) (h : (s : Counted) → 1 ≤ s.hashes → Leads t (at + w) (rest 0 s)) where
+    module _ (at c w : ℕ) (e : look_at t at ≡ char_found c w) (rest : ℕ → Counted → Opened) (h : (s : Counted) → 1 ≤ s.hashes → Leads t (at + w) (rest 0 s)) where
       abbrev Turned : Turn Counted (Unit {0}) Opened → Type 0
       Turned x = Leads t at (on_turn x (λ n k s. rest k s) (λ r. r))
 

@@ -1,4 +1,5 @@
 -- What the opening of a raw literal leads to is small where its start is. Assumes nothing.
+use Rattle.std.specs.Prelude.{Err, Ok}
 use Prim.Native.Nat.{ℕ}
 use native.Mathlib.Omega.{arith}
 use mathlib.Core.List.{List}
@@ -13,12 +14,11 @@ use Rattle.chars.specs.declared.cursor.Cursor.{Cursor}
 use Rattle.chars.proofs.Keeps.{Kept, scan_keeps}
 use Rattle.classes.specs.Marks.{quote, hash}
 use Rattle.raw.specs.Opening.{Counted, counted, cut_off, opening_turn, opening_rule, opened_of}
-use Rattle.raw.specs.declared.open.Opened.{Opened}
-use Rattle.raw.specs.declared.open.Opened.TheVariants.{At, Refused}
+use Rattle.raw.specs.Answer.{Opened}
 
 abbrev pub OpenedSmall : List ℕ → Opened → Type 0
-OpenedSmall t (At k from) = Small from.place
-OpenedSmall t (Refused f) = Tells (length t) f.fault
+OpenedSmall t (Ok (k, from)) = Small from.place
+OpenedSmall t (Err f) = Tells (length t) f.fault
 
 pub opened_small : (t : List ℕ) (start : Cursor) (k : ℕ) → Small start.place → OpenedSmall t (opened_of t start k)
 unfolding opened_of opening_turn cut_off

@@ -1,4 +1,5 @@
 -- An attempt to close, a quote and the hashes behind it, as long as they are too few: nothing is added while it lasts. Assumes nothing.
+use Rattle.utf8.specs.Looks.{char_found}
 use Prim.Native.Nat.{ℕ, ◌+◌, ◌≤◌, ◌<◌}
 use native.Mathlib.Omega.{arith}
 use mathlib.Core.Bool.{false}
@@ -9,7 +10,6 @@ use Rattle.position.specs.declared.Position.{Position}
 use Rattle.position.specs.Place.{or_else, advanced, advanced_by}
 use Rattle.position.proofs.Moves.{advanced_by_none, advanced_by_more, first_stays}
 use Rattle.utf8.specs.Table.{look_at}
-use Rattle.utf8.specs.declared.Look.TheVariants.{Char}
 use Rattle.utf8.proofs.Laws.{at_width}
 use Rattle.chars.specs.Cursors.{cursor}
 use Rattle.chars.specs.Scan.{run_at}
@@ -17,7 +17,7 @@ use Rattle.chars.proofs.Cursors.{ate}
 use Rattle.literal.specs.Trace.{passes}
 use Rattle.literal.specs.Cut.{cut}
 use Rattle.literal.specs.declared.Refusal.{Refusal}
-use Rattle.literal.specs.declared.Scanned.{Scanned}
+use Rattle.literal.specs.Scans.{Scanned}
 use Rattle.raw.specs.Raw.{as_source, BodyState, body_state, body_rule}
 use Rattle.raw.specs.Step.{Hashes, none, more}
 use Rattle.raw.proofs.scan.Turns.{quote_adds, hash_adds}
@@ -40,7 +40,7 @@ module _ (t : List ℕ) (k from : ℕ) (p f : Position) (start : Position) (full
   left at s = cut full limit room m (run_at (body_rule as_source start k) t at s)
 
   -- one hash more
-  hash_on : (n : ℕ) → look_at t (from + 1 + n) ≡ Char 0x23 1 → n + 1 < k → left (from + 1 + n) (attempt n p f) ≡ left (from + 1 + (n + 1)) (attempt (n + 1) p f)
+  hash_on : (n : ℕ) → look_at t (from + 1 + n) ≡ char_found 0x23 1 → n + 1 < k → left (from + 1 + n) (attempt n p f) ≡ left (from + 1 + (n + 1)) (attempt (n + 1) p f)
   hash_on n e l =
       let at = from + 1 + n in
       let s = attempt n p f in
@@ -50,7 +50,7 @@ module _ (t : List ℕ) (k from : ℕ) (p f : Position) (start : Position) (full
       rw (z, advanced_by_more (n + 1) p, first_stays f p on) in
       goes_on as_source start t k at s full limit room m (hash_adds as_source t k at s (ate t (cursor at s.place) e) refl (omega arith) (λ q. omega (arith, q, l))) g (omega arith) g o ∙ same
 
-  pub attempted : look_at t from ≡ Char 0x22 1 → {n : ℕ} → Hashes t (from + 1) n → n < k → left from (body_state 0 p f) ≡ left (from + 1 + n) (attempt n p f)
+  pub attempted : look_at t from ≡ char_found 0x22 1 → {n : ℕ} → Hashes t (from + 1) n → n < k → left from (body_state 0 p f) ≡ left (from + 1 + n) (attempt n p f)
   attempted one none l =
       let z : from + 1 + 0 ≡ from + 1 = omega arith in
       rw (z, one_column p) (goes_on as_source start t k from (body_state 0 p f) full limit room m (quote_adds as_source t k from (body_state 0 p f) (ate t (cursor from p) one) refl) g (omega arith) g o)

@@ -1,4 +1,6 @@
 -- Where a raw literal ends. Assumes nothing.
+use Rattle.utf8.specs.Looks.{char_found}
+use Rattle.std.specs.Prelude.{Err, Ok}
 use Prim.Native.Nat.{ℕ, zero, suc, ◌+◌, ◌≤◌}
 use native.Mathlib.Omega.{arith}
 use mathlib.Core.List.{List, ◌∷◌}
@@ -12,7 +14,6 @@ use Rattle.position.specs.Place.{none}
 use Rattle.utf8.specs.Table.{ch, chars_at, look_at}
 use Rattle.utf8.specs.Encode.{encode}
 use Rattle.utf8.proofs.Encodes.{size_bounds}
-use Rattle.utf8.specs.declared.Look.TheVariants.{Char}
 use Rattle.utf8.proofs.Laws.{at_width}
 use Rattle.chars.specs.Scan.{Turn, go, stop}
 use Rattle.chars.specs.declared.cursor.Cursor.{Cursor}
@@ -22,8 +23,7 @@ use Rattle.literal.specs.Trace.{Trace, Yield, bytes, final}
 use Rattle.literal.proofs.Lands.{LandsFrom, size, earlier, lands_behind}
 use Rattle.classes.specs.Marks.{hash, quote}
 use Rattle.raw.specs.Opening.{opened_of}
-use Rattle.raw.specs.declared.open.Opened.{Opened}
-use Rattle.raw.specs.declared.open.Opened.TheVariants as opened
+use Rattle.raw.specs.Answer.{Opened}
 use Rattle.raw.proofs.open.Leads.{Leads, opened_leads}
 use Rattle.raw.specs.Raw.{BodyState, body_state, held_back, Newlines, at_end, body_turn, body_rule, body_of, behind_opening, read_of}
 
@@ -40,7 +40,7 @@ module _ (mode : Newlines) (t : List ℕ) (start : Position) where
     Turned at held (go ys j r) = size ys + r.held ≤ held + 4
     Turned at held (stop r) = LandsFrom t at held r
 
-    turned : (at c w : ℕ) (s : BodyState) → look_at t at ≡ Char c w → Turned at s.held (body_turn mode start k at (ch c w ∷ chars_at t (at + w)) s)
+    turned : (at c w : ℕ) (s : BodyState) → look_at t at ≡ char_found c w → Turned at s.held (body_turn mode start k at (ch c w ∷ chars_at t (at + w)) s)
     unfolding body_turn bytes final
     turned at c w s e =
         let h = at_width t at e in
@@ -61,9 +61,9 @@ module _ (mode : Newlines) (t : List ℕ) (start : Position) where
 
   left_lands : (at : ℕ) → at ≤ length t → (x : Opened) → Leads t at x → LandsFrom t at 0 (behind_opening mode t start x)
   unfolding final
-  left_lands at l (opened.At k from) (n, r) =
+  left_lands at l (Ok (k, from)) (n, r) =
       earlier t at from.at 0 _ (reached_low r) (reached_high r l) (final (body_of mode t start k from)) (body_lands k n from)
-  left_lands at l (opened.Refused f) h = tt
+  left_lands at l (Err f) h = tt
 
 pub raw_lands : (mode : Newlines) (t : List ℕ) (from : Cursor) → from.at ≤ length t → LandsFrom t from.at 0 (read_of mode t from 0)
 unfolding read_of

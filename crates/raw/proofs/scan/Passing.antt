@@ -1,4 +1,5 @@
 -- Characters of a body that are passed at once outside an attempt to close: plain ones, a line feed, a quote that closes nothing. Assumes nothing.
+use Rattle.utf8.specs.Looks.{char_found}
 use Prim.Native.Nat.{ℕ, ◌+◌, ◌-◌, ◌≤◌, ◌<◌}
 use native.Mathlib.Omega.{arith}
 use mathlib.Core.Bool.{false}
@@ -10,7 +11,6 @@ use Rattle.position.specs.Place.{or_else, advanced, advanced_by, lined}
 use Rattle.position.proofs.Moves.{first_by, advanced_by_none, advanced_by_more, first_by_none, first_by_more, first_by_some, first_stays}
 use Rattle.utf8.specs.Table.{look_at}
 use Rattle.utf8.specs.Encode.{encode}
-use Rattle.utf8.specs.declared.Look.TheVariants.{Char}
 use Rattle.utf8.proofs.Bits.{look_ascii}
 use Rattle.utf8.proofs.Laws.{at_width}
 use Rattle.utf8.proofs.Unicode.{size_width}
@@ -23,7 +23,7 @@ use Rattle.chars.proofs.Stretches.{is_other, stretched, stretch_low}
 use Rattle.literal.specs.Trace.{Trace, added, tested, yields, passes}
 use Rattle.literal.specs.Cut.{cut}
 use Rattle.literal.specs.declared.Refusal.{Refusal}
-use Rattle.literal.specs.declared.Scanned.{Scanned}
+use Rattle.literal.specs.Scans.{Scanned}
 use Rattle.literal.proofs.Limits.{fewer}
 use Rattle.literal.proofs.Within.{adds_within}
 use Rattle.literal.specs.Answers.{too_long}
@@ -40,8 +40,8 @@ abbrev pub Plain : ℕ → Type 0
 Plain c = Other 0x22 0x0A 0x0A 0x0A 0x0A c
 
 -- a character of one byte
-pub one_byte : (t : List ℕ) (at : ℕ) {c : ℕ} → at < length t → get_or t at 0 ≡ c → c < 0x80 → look_at t at ≡ Char c 1
-one_byte t at h e l = sym (look_ascii t at h 1 (rw e l) refl) ∙ ap (λ (x : ℕ). Char x 1) e
+pub one_byte : (t : List ℕ) (at : ℕ) {c : ℕ} → at < length t → get_or t at 0 ≡ c → c < 0x80 → look_at t at ≡ char_found c 1
+one_byte t at h e l = sym (look_ascii t at h 1 (rw e l) refl) ∙ ap (λ (x : ℕ). char_found x 1) e
 
 -- nothing is passed; one thing behind the other
 pub passes_none : (t : List ℕ) (k limit room held : ℕ) (s : Stand) → s.n ≤ room → BodyPasses t k limit room held s s
@@ -68,7 +68,7 @@ module _ (t : List ℕ) (k limit room most : ℕ) (s : Stand) (g : s.n + most �
     abbrev view : ℕ → Trace → Scanned
     view b r = cut full limit room (s.n + (b - from)) r
 
-    one_passed : (i b c w : ℕ) → from ≤ b → b + w ≤ from + most → look_at t b ≡ Char c w → Plain c → stretches.Plain (body_rule as_source start k) t after view i b w
+    one_passed : (i b c w : ℕ) → from ≤ b → b + w ≤ from + most → look_at t b ≡ char_found c w → Plain c → stretches.Plain (body_rule as_source start k) t after view i b w
     unfolding body_turn held_back placed yields
     one_passed i b c w l h e y =
         let n = is_other 0x22 0x0A 0x0A 0x0A 0x0A c y in
@@ -107,7 +107,7 @@ module _ (t : List ℕ) (k limit room most : ℕ) (s : Stand) (g : s.n + most �
   within m l some = fewer limit m (s.n + most) l (o some)
 
   -- a line feed
-  pub passes_line : look_at t from ≡ Char 0x0A 1 → 0 < most → {m : ℕ} {p q : Position} → p ≡ lined (advanced s.here.place) → q ≡ or_else s.first p → m ≡ s.n + 1
+  pub passes_line : look_at t from ≡ char_found 0x0A 1 → 0 < most → {m : ℕ} {p q : Position} → p ≡ lined (advanced s.here.place) → q ≡ or_else s.first p → m ≡ s.n + 1
       → BodyPasses t k limit room 0 s (record { here = cursor (from + 1) p; first = q; n = m })
   passes_line e some {m} x y z =
       record {
@@ -119,7 +119,7 @@ module _ (t : List ℕ) (k limit room most : ℕ) (s : Stand) (g : s.n + most �
       }
 
   -- a quote and j hashes, too few to close
-  module _ (one : look_at t from ≡ Char 0x22 1) {j : ℕ} (h : Hashes t (from + 1) j) (few : j < k) where
+  module _ (one : look_at t from ≡ char_found 0x22 1) {j : ℕ} (h : Hashes t (from + 1) j) (few : j < k) where
     abbrev tried : BodyState
     tried = attempt j s.here.place s.first
 
@@ -132,7 +132,7 @@ module _ (t : List ℕ) (k limit room most : ℕ) (s : Stand) (g : s.n + most �
     lasts some start full = attempted t k from s.here.place s.first start full limit room s.n (omega (arith, g)) (within s.n (omega arith) some) one h few
 
     -- and a character of w bytes that ends the attempt
-    passes_ended : {c w : ℕ} → look_at t there ≡ Char c w → Failing c → {m : ℕ} {p q : Position} → j + w < most
+    passes_ended : {c w : ℕ} → look_at t there ≡ char_found c w → Failing c → {m : ℕ} {p q : Position} → j + w < most
         → p ≡ advanced_by (j + 2) s.here.place → q ≡ or_else s.first (advanced s.here.place) → m ≡ s.n + (j + w + 1)
         → BodyPasses t k limit room 0 s (record { here = cursor (there + w) p; first = q; n = m })
     passes_ended {c} {w} two n {m} l x f z =
@@ -153,7 +153,7 @@ module _ (t : List ℕ) (k limit room most : ℕ) (s : Stand) (g : s.n + most �
     abbrev behind : BodyState
     behind = body_state 0 tried.place tried.first
 
-    passes_again : look_at t there ≡ Char 0x22 1 → {m : ℕ} {p q : Position} → j < most
+    passes_again : look_at t there ≡ char_found 0x22 1 → {m : ℕ} {p q : Position} → j < most
         → p ≡ advanced_by (j + 1) s.here.place → q ≡ or_else s.first (advanced s.here.place) → m ≡ s.n + (j + 1)
         → BodyPasses t k limit room 0 s (record { here = cursor there p; first = q; n = m })
     passes_again two {m} l x f z =

@@ -1,4 +1,6 @@
 -- What holds of every reading of a raw literal, proved by its turns; so where an accepted one ends. Assumes nothing.
+use Rattle.utf8.specs.Looks.{char_found}
+use Rattle.std.specs.Prelude.{Err, Ok}
 use Prim.Native.Nat.{ℕ, ◌+◌, ◌≤◌}
 use native.Mathlib.Omega.{arith}
 use mathlib.Core.Bool.{true}
@@ -10,7 +12,6 @@ use Rattle.basis.specs.Pick.{both}
 use Rattle.basis.proofs.Cases.{pick_cases}
 use Rattle.position.specs.Place.{none}
 use Rattle.utf8.specs.Table.{ch, chars, chars_at, edge, look_at}
-use Rattle.utf8.specs.declared.Look.TheVariants.{Char}
 use Rattle.utf8.proofs.Laws.{at_width, chars_char, chars_end, by_chars}
 use Rattle.utf8.proofs.Edges.{edge_step}
 use Rattle.chars.specs.Scan.{Turn, on_turn, run, run_at}
@@ -22,8 +23,7 @@ use Rattle.literal.specs.declared.End as an
 use Rattle.literal.specs.declared.Refusal.{Refusal}
 use Rattle.classes.specs.Marks.{quote, hash}
 use Rattle.raw.specs.Opening.{opened_of}
-use Rattle.raw.specs.declared.open.Opened.{Opened}
-use Rattle.raw.specs.declared.open.Opened.TheVariants.{At, Refused}
+use Rattle.raw.specs.Answer.{Opened}
 use Rattle.raw.proofs.open.Leads.{Leads, opened_leads}
 use Rattle.raw.specs.Raw.{BodyState, body_state, at_end, body_turn, body_rule, body_of, behind_opening, read_of, Newlines}
 
@@ -36,7 +36,7 @@ module _
     (ended : (at : ℕ) (e : an.End) → e.cursor.at ≡ at → Q at (ends e))
     (failed : (at : ℕ) (f : Refusal) → f.fault.number ≤ 6 → Q at (fails f))
     (added : (at : ℕ) (bs : List ℕ) (f : Refusal) (r : Trace) → f.fault ≡ string_too_long start.place → Q at r → Q at (adds bs (checks f r)))
-    (before : (at c w : ℕ) (r : Trace) → look_at t at ≡ Char c w → Q (at + w) r → Q at r) where
+    (before : (at c w : ℕ) (r : Trace) → look_at t at ≡ char_found c w → Q (at + w) r → Q at r) where
   module _ (k : ℕ) where
     module _ (at c w : ℕ) (rest : ℕ → BodyState → Trace) (h : (s : BodyState) → Q (at + w) (rest 0 s)) where
       abbrev Turned : Turn BodyState (List Yield) Trace → Type 0
@@ -65,8 +65,8 @@ module _
 
   left : (at : ℕ) (x : Opened) → Leads t at x → Q at (behind_opening mode t start.place x)
   unfolding body_of
-  left at (At k from) l = further _ l.1 (inside k from.at (body_state 0 from.place none))
-  left at (Refused f) l = failed at f (omega arith)
+  left at (Ok (k, from)) l = further _ l.1 (inside k from.at (body_state 0 from.place none))
+  left at (Err f) l = failed at f (omega arith)
 
   pub every : (k : ℕ) → Q start.at (read_of mode t start k)
   unfolding read_of
@@ -102,7 +102,7 @@ module _ (t : List ℕ) where
   unfolding final
   adds_more at bs f r h = h
 
-  one_before : (at c w : ℕ) (r : Trace) → look_at t at ≡ Char c w → Ending t (at + w) r → Ending t at r
+  one_before : (at c w : ℕ) (r : Trace) → look_at t at ≡ char_found c w → Ending t (at + w) r → Ending t at r
   one_before at c w r q h e g =
       let k = h e g in
       let w = at_width t at q in

@@ -1,4 +1,5 @@
 -- What the reading of a raw literal tells is small where its start is. Assumes nothing.
+use Rattle.std.specs.Prelude.{Err, Ok}
 use Prim.Native.Nat.{ℕ}
 use mathlib.Core.List.{List}
 use lib.Dec.{eqb, ltb}
@@ -15,8 +16,7 @@ use Rattle.literal.specs.Trace.{Trace, Yield}
 use Rattle.literal.proofs.Small.{Traced, yields_traced}
 use Rattle.classes.specs.Marks.{quote, hash, lf}
 use Rattle.raw.specs.Opening.{opened_of}
-use Rattle.raw.specs.declared.open.Opened.{Opened}
-use Rattle.raw.specs.declared.open.Opened.TheVariants.{At, Refused}
+use Rattle.raw.specs.Answer.{Opened}
 use Rattle.raw.proofs.open.Small.{OpenedSmall, opened_small}
 use Rattle.raw.specs.Raw.{BodyState, body_state, placed, at_end, body_turn, body_rule, body_of, behind_opening, read_of, Newlines, starts_line}
 
@@ -44,5 +44,5 @@ unfolding read_of
 read_traced mode t start k h = by (opened_of t start k) (opened_small t start k h)
   where
     by : (x : Opened) → OpenedSmall t x → Traced (length t) (behind_opening mode t start.place x)
-    by (At n from) i = body_traced mode t start.place n from i
-    by (Refused f) i = i
+    by (Ok (n, from)) i = body_traced mode t start.place n from i
+    by (Err f) i = i

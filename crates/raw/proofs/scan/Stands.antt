@@ -1,4 +1,6 @@
 -- Where the measuring loop stands: what a limit and a room leave of the reading from here, as many bytes into it as the body has so far, is the whole answer. One law for each way through a turn. Assumes nothing.
+use Rattle.chars.specs.Takes.{char_taken}
+use Rattle.std.specs.Prelude.{Err, None}
 use Prim.Native.Nat.{ℕ, ◌+◌, ◌-◌, ◌≤◌, ◌<◌}
 use native.Mathlib.Omega.{arith}
 use mathlib.Core.Bool.{true, false}
@@ -10,13 +12,11 @@ use Rattle.position.specs.Place.{none, or_else}
 use Rattle.chars.specs.Cursors.{eat_next_of}
 use Rattle.chars.specs.Scan.{run_at}
 use Rattle.chars.specs.declared.cursor.Cursor.{Cursor}
-use Rattle.chars.specs.declared.cursor.Taken.TheVariants as taken
 use Rattle.chars.proofs.Cursors.{ate_took}
 use Rattle.chars.proofs.Cursors as cursors
 use Rattle.literal.specs.Trace.{passes}
 use Rattle.literal.specs.Cut.{cut}
-use Rattle.literal.specs.declared.Scanned.{Scanned}
-use Rattle.literal.specs.declared.Scanned.TheVariants.{Accepted, Refused}
+use Rattle.literal.specs.Scans.{Scanned, accepted_as}
 use Rattle.literal.specs.Answers.{nothing, too_long, full}
 use Rattle.raw.specs.Raw.{as_source, hashes_of, raw_end, BodyState, body_state, body_rule, body_of}
 use Rattle.raw.specs.Step.{held_behind, cursor_behind, BodyPasses}
@@ -61,10 +61,10 @@ module _ (t : List ℕ) (start from : Cursor) (k limit room : ℕ) where
     }
 
     -- the text ends
-    pub runs_out : eat_next_of t here ≡ taken.End → Accepted (raw_end here first (hashes_of k)) n ≡ answer
+    pub runs_out : eat_next_of t here ≡ None → accepted_as (raw_end here first (hashes_of k)) n ≡ answer
     runs_out e = sym (s.rest ∙ loops.is_over as_source start.place t k here.at state (full start) limit room n (ends_open as_source t k here.at state e))
 
-    module _ {c : ℕ} {next : Cursor} (e : eat_next_of t here ≡ taken.Char c next) where
+    module _ {c : ℕ} {next : Cursor} (e : eat_next_of t here ≡ char_taken c next) where
       further : (here.at < next.at) × (next.at ≤ length t)
       further = cursors.further t here.at _ (ate_took t here e)
 
@@ -88,7 +88,7 @@ module _ (t : List ℕ) (start from : Cursor) (k limit room : ℕ) where
         pub is_read : h ≤ next.at - from.at
         is_read = omega (arith, within)
 
-        pub closes : k < h → Accepted (raw_end next first nothing) n ≡ answer
+        pub closes : k < h → accepted_as (raw_end next first nothing) n ≡ answer
         closes l = sym (s.rest ∙ loops.is_over as_source start.place t k here.at state (full start) limit room n (told.shut l))
 
         -- the turn goes on, with a body of m bytes
@@ -99,11 +99,11 @@ module _ (t : List ℕ) (start from : Cursor) (k limit room : ℕ) where
           grows : m ≡ n + (held + (next.at - here.at) - h)
           grows = omega (arith, told.fits, s.fits, s.counts, further)
 
-          pub is_full : room < m → Refused (full start) ≡ answer
+          pub is_full : room < m → Err (full start) ≡ answer
           is_full g = sym (s.rest ∙ loops.no_room as_source start.place t k here.at state (full start) limit room n (goes as_source t k here.at state e q one s.small p o l) s.has_room grows g)
 
           module _ (g : m ≤ room) where
-            pub is_too_long : passes limit m ≡ true → Refused (too_long start.place there (hashes_of k)) ≡ answer
+            pub is_too_long : passes limit m ≡ true → Err (too_long start.place there (hashes_of k)) ≡ answer
             is_too_long x =
                 sym (s.rest ∙ loops.is_too_long as_source start.place t k here.at state (full start) limit room n (goes as_source t k here.at state e q one s.small p o l) s.has_room grows g x)
 

@@ -1,4 +1,5 @@
 -- What is held back and where the scan stands behind a character, for each way through the code; and the turn of a body as they tell it. Assumes nothing.
+use Rattle.chars.specs.Takes.{char_taken}
 use Prim.Native.Nat.{ℕ, ◌+◌, ◌-◌, ◌≤◌, ◌<◌}
 use native.Mathlib.Omega.{arith}
 use mathlib.Core.Bool.{Bool, true, false}
@@ -16,7 +17,6 @@ use Rattle.utf8.proofs.Unicode.{size_width}
 use Rattle.chars.specs.Cursors.{cursor, eat_next_of}
 use Rattle.chars.specs.Scan.{move_at, over}
 use Rattle.chars.specs.declared.cursor.Cursor.{Cursor}
-use Rattle.chars.specs.declared.cursor.Taken.TheVariants.{Char}
 use Rattle.chars.proofs.Cursors.{Took, ate_took}
 use Rattle.literal.specs.Trace.{ends}
 use Rattle.literal.specs.Answers.{nothing}
@@ -57,7 +57,7 @@ module _ (c held : ℕ) (next : Cursor) where
   behind_plain n = rw (placed_other as_source held {c = c} next.place n)
 
 -- the character that was taken from a body, and the bytes that are held back behind it
-module _ (mode : Newlines) (t : List ℕ) (k at : ℕ) (s : BodyState) {c : ℕ} {next : Cursor} (e : eat_next_of t (cursor at s.place) ≡ Char c next) {held : ℕ} (h : held ≡ held_behind c s.held) where
+module _ (mode : Newlines) (t : List ℕ) (k at : ℕ) (s : BodyState) {c : ℕ} {next : Cursor} (e : eat_next_of t (cursor at s.place) ≡ char_taken c next) {held : ℕ} (h : held ≡ held_behind c s.held) where
   abbrev took : Took t at (advanced s.place) c next
   took = ate_took t (cursor at s.place) e
 

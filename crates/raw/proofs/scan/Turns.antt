@@ -1,4 +1,6 @@
 -- The turn of a body, for each way through the code. Assumes nothing.
+use Rattle.chars.specs.Takes.{char_taken}
+use Rattle.std.specs.Prelude.{None}
 use Prim.Native.Nat.{ℕ, zero, suc, ◌+◌, ◌-◌, ◌≤◌, ◌<◌}
 use native.Mathlib.Omega.{arith}
 use mathlib.Core.Bool.{true, false}
@@ -16,7 +18,6 @@ use Rattle.utf8.proofs.Unicode.{size_width}
 use Rattle.chars.specs.Cursors.{cursor, eat_next_of}
 use Rattle.chars.specs.Scan.{move_at, over}
 use Rattle.chars.specs.declared.cursor.Cursor.{Cursor}
-use Rattle.chars.specs.declared.cursor.Taken.TheVariants as taken
 use Rattle.chars.proofs.Cursors.{Took, ate_took, ate_ended}
 use Rattle.chars.proofs.Scans.{at_end_lem, one_on, is_over}
 use Rattle.literal.specs.Trace.{ends}
@@ -50,12 +51,12 @@ placed_held {held} c p h = rw (ne_eqb held 0 (λ q. omega arith), both_no)
 
 module _ (mode : Newlines) (t : List ℕ) (k at : ℕ) (s : BodyState) where
   -- the text ends
-  pub ends_open : eat_next_of t (cursor at s.place) ≡ taken.End → (start : Position)
+  pub ends_open : eat_next_of t (cursor at s.place) ≡ None → (start : Position)
       → move_at (body_rule mode start k) t at s ≡ over (ends (raw_end (cursor at s.place) s.first (hashes_of k)))
   unfolding at_end
   ends_open e start = at_end_lem (body_rule mode start k) t at s (ate_ended t (cursor at s.place) e)
 
-  module _ {c : ℕ} {next : Cursor} (e : eat_next_of t (cursor at s.place) ≡ taken.Char c next) where
+  module _ {c : ℕ} {next : Cursor} (e : eat_next_of t (cursor at s.place) ≡ char_taken c next) where
     abbrev took : Took t at (advanced s.place) c next
     took = ate_took t (cursor at s.place) e
 
@@ -112,7 +113,7 @@ module _ (mode : Newlines) (t : List ℕ) (k at : ℕ) (s : BodyState) where
         plain_adds l = kept_adds m (rw (le-ltb 0 s.held z)) (omega arith) (placed_other mode s.held next.place l)
 
 -- where it ends an attempt, an LF starts no line in the source's mode
-module _ (t : List ℕ) (k at : ℕ) (s : BodyState) {c : ℕ} {next : Cursor} (e : eat_next_of t (cursor at s.place) ≡ taken.Char c next) where
+module _ (t : List ℕ) (k at : ℕ) (s : BodyState) {c : ℕ} {next : Cursor} (e : eat_next_of t (cursor at s.place) ≡ char_taken c next) where
   pub failed_adds : {n : ℕ} → (c ≡ 0x22 → ⊥) → 0 < s.held → (c ≡ 0x23 → ⊥) → n ≡ s.held + (next.at - at)
       → Adds as_source t k at s n next.at (body_state 0 next.place (or_else s.first next.place))
   failed_adds m z h q = kept_adds as_source t k at s e m (rw (ne_eqb c 0x23 h, both_no)) q (placed_held c next.place z)

@@ -1,4 +1,6 @@
 -- A raw body is a part of the text: it stands where the body begins. Assumes nothing.
+use Rattle.utf8.specs.Looks.{char_found}
+use Rattle.std.specs.Prelude.{Err, None}
 use Prim.Native.Nat.{ℕ, zero, suc, ◌+◌, ◌-◌, ◌≤◌, ◌<◌}
 use native.Mathlib.Omega.{arith}
 use native.Mathlib.Numerals.{add-one}
@@ -18,7 +20,6 @@ use Rattle.position.specs.Place.{none, or_else, advanced}
 use Rattle.utf8.proofs.Laws.{by_chars}
 use Rattle.utf8.specs.Table.{ch, chars_at, look_at}
 use Rattle.utf8.specs.Encode.{encode}
-use Rattle.utf8.specs.declared.Look.TheVariants.{Char, End}
 use Rattle.utf8.proofs.Unicode.{look_scalar_bytes}
 use Rattle.chars.specs.Cursors.{cursor}
 use Rattle.chars.specs.Scan.{run_at}
@@ -29,8 +30,7 @@ use Rattle.literal.specs.Trace.{ends, yields, bytes}
 use Rattle.literal.specs.declared.Refusal.{Refusal}
 use Rattle.literal.specs.Answers.{nothing}
 use Rattle.raw.specs.Opening.{opened_of}
-use Rattle.raw.specs.declared.open.Opened.{Opened}
-use Rattle.raw.specs.declared.open.Opened.TheVariants.{At, Refused}
+use Rattle.raw.specs.Answer.{Opened, opened_as}
 use Rattle.raw.proofs.open.Leads.{Leads, opened_leads}
 use Rattle.raw.specs.Raw.{raw_end, BodyState, body_state, held_back, steps, placed, at_end, body_turn, body_rule, body_of, read_of, Newlines}
 
@@ -46,7 +46,7 @@ front_fits : (xs l : List ℕ) → Front xs l → length xs ≤ length l
 front_fits xs l h = omega (arith, ap length h ∙ length-take (length xs) l)
 
 -- the bytes of a text from an offset: those of the character there, and the rest
-from_char : (t : List ℕ) (at : ℕ) {c w : ℕ} → look_at t at ≡ Char c w → drop at t ≡ encode c ++ drop (at + w) t
+from_char : (t : List ℕ) (at : ℕ) {c w : ℕ} → look_at t at ≡ char_found c w → drop at t ≡ encode c ++ drop (at + w) t
 from_char t at {c} {w} e = sym (take-append-drop w (drop at t)) ∙ rw (look_scalar_bytes t at e, drop-drop w at t)
 
 -- one hash more held back
@@ -67,11 +67,11 @@ module _ (mode : Newlines) (start : Position) (t : List ℕ) (k : ℕ) where
   abbrev Part : ℕ → Type 0
   Part at = (s : BodyState) → Front (rest at s) (held_back s.held ++ drop at t)
 
-  no_more : (at : ℕ) → look_at t at ≡ End → Part at
+  no_more : (at : ℕ) → look_at t at ≡ None → Part at
   unfolding bytes at_end
   no_more at e s = rw (move_over (body_rule mode start k) t at s (at_end_lem (body_rule mode start k) t at s e))
 
-  module _ (at : ℕ) {c w : ℕ} (e : look_at t at ≡ Char c w) (s : BodyState) where
+  module _ (at : ℕ) {c w : ℕ} (e : look_at t at ≡ char_found c w) (s : BodyState) where
     -- a step that adds bytes leaves, behind them, what is then held back and the rest of the text
     step : (bs : List ℕ) (n : ℕ) (p : Position) → body_turn mode start k at (ch c w ∷ chars_at t (at + w)) s ≡ steps start k (at + w) s.first bs n p
         → held_back s.held ++ drop at t ≡ bs ++ (held_back n ++ drop (at + w) t) → Part (at + w) → Front (rest at s) (held_back s.held ++ drop at t)
@@ -120,11 +120,11 @@ module _ (mode : Newlines) (start : Position) (t : List ℕ) (k : ℕ) (from : C
 
 -- what is written of a body, from what the opening leads to
 module _ (mode : Newlines) (t : List ℕ) (start : Cursor) (k : ℕ) {r : Opened} (e : r ≡ opened_of t start k) where
-  pub nothing_to_write : {f : Refusal} → r ≡ Refused f → (l : List ℕ) → l ≡ sets l 0 (bytes (read_of mode t start k))
+  pub nothing_to_write : {f : Refusal} → r ≡ Err f → (l : List ℕ) → l ≡ sets l 0 (bytes (read_of mode t start k))
   unfolding read_of bytes
   nothing_to_write q l = rw (← e, q)
 
-  module _ {j : ℕ} {from : Cursor} (q : r ≡ At j from) {n : ℕ} (h : n ≡ length (bytes (read_of mode t start k))) where
+  module _ {j : ℕ} {from : Cursor} (q : r ≡ opened_as j from) {n : ℕ} (h : n ≡ length (bytes (read_of mode t start k))) where
     is_body : read_of mode t start k ≡ body_of mode t start.place j from
     unfolding read_of
     is_body = rw (← e, q)

@@ -10,7 +10,7 @@ use Rattle.numbers.specs.Spell.{spelled}
 use Rattle.numbers.proofs.Rows.{length_spelled}
 use Rattle.reading.specs.Reading.{Left}
 use Rattle.reading.specs.Told.{ending_number}
-use Rattle.reading.specs.declared.Ending.{Ending}
+use Rattle.reading.specs.Endings.{Ending}
 use Rattle.door.specs.RunDoor.{refuses_of}
 use Rattle.run.specs.Run.{Called, called, holds}
 use Rattle.run.specs.declared.Ran.{Ran}

@@ -8,7 +8,7 @@ use lib.ListN.{length}
 use borrow.Author.Tests.{eq-eqb, ne_eqb, lt-ltb, le-ltb}
 use Rattle.basis.specs.Store.{stored}
 use Rattle.basis.proofs.Stores.{stored_whole, sets_front}
-use Rattle.lent.specs.declared.Written.{Written}
+use Rattle.lent.specs.Answer.{Written}
 use Rattle.lent.specs.Written.{written_number}
 use Rattle.numbers.specs.Spell.{spell}
 use Rattle.numbers.proofs.Rows.{length_spell}

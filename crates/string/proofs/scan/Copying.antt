@@ -1,4 +1,6 @@
 -- Plain characters copied at once: they stand in the text as in the body. Assumes nothing.
+use Rattle.utf8.specs.Looks.{char_found}
+use Rattle.std.specs.Prelude.{None}
 use Prim.Native.Nat.{ℕ, zero, suc, ◌+◌, ◌-◌, ◌≤◌, ◌<◌}
 use native.Mathlib.Omega.{arith}
 use native.Mathlib.Nat.{zero-add, suc-add}
@@ -15,7 +17,6 @@ use Rattle.position.specs.declared.Position.{Position}
 use Rattle.position.specs.Place.{or_else, advanced}
 use Rattle.utf8.specs.Table.{look_at}
 use Rattle.utf8.specs.Encode.{encoded}
-use Rattle.utf8.specs.declared.Look.TheVariants.{Char}
 use Rattle.utf8.proofs.Encodes.{encoded_scalar}
 use Rattle.utf8.proofs.Unicode.{code_scalar, look_scalar_bytes}
 use Rattle.white.specs.White.{is_white}
@@ -28,7 +29,6 @@ use Rattle.literal.specs.declared.Refusal.{Refusal}
 use Rattle.classes.specs.Marks.{backtick}
 use Rattle.string_turn.specs.Take.{scanning}
 use Rattle.string_turn.specs.Passing.{Plain, Added, place_behind, stood_state, StringPasses, none, some, one, then}
-use Rattle.string_turn.specs.declared.take.Pending.TheVariants.{Empty}
 use Rattle.string_turn.specs.declared.take.Scanning.{Scanning}
 use Rattle.string_turn.specs.declared.take.Stood.{Stood}
 use Rattle.string_turn.proofs.take.Passing.{passes_low, passes_within}
@@ -63,7 +63,7 @@ pub stored_nothing : (t out : List ℕ) (at to n : ℕ) → to ≤ at → out �
 unfolding stored
 stored_nothing t out at to n h = rw (part_none t at to h) (same_either_way (fits out n []) out)
 
-part_char : (t : List ℕ) (at b : ℕ) {c w : ℕ} → at ≤ b → look_at t b ≡ Char c w → part t at b ++ encoded c ≡ part t at (b + w)
+part_char : (t : List ℕ) (at b : ℕ) {c w : ℕ} → at ≤ b → look_at t b ≡ char_found c w → part t at b ++ encoded c ≡ part t at (b + w)
 part_char t at b {c} {w} h e =
     let z : b + w - at ≡ b - at + w = omega arith in
     let y : at + (b - at) ≡ b = omega arith in
@@ -89,23 +89,23 @@ module _ (t : List ℕ) (q : ℕ) (start : Position) (at : ℕ) where
     abbrev after' : ℕ → Scanning
     after' k = passing.after is_white t q start p f k
 
-    one_passed : (k b c w : ℕ) → at ≤ b → look_at t b ≡ Char c w → Plain q c → stretches.Plain (string_rule is_white t q start) t after' view k b w
+    one_passed : (k b c w : ℕ) → at ≤ b → look_at t b ≡ char_found c w → Plain q c → stretches.Plain (string_rule is_white t q start) t after' view k b w
     one_passed k b c w h e y =
         ap (view b) (one_after is_white t q start p f k b e y) ∙ read b c _ _ ∙ ap (λ (l : List ℕ). l ++ bytes (rest t q start (b + w) (after' (k + 1)))) (part_char t at b h e)
 
-    all_passed : {k b : ℕ} → StretchOf t (Plain q) at k b → bytes (rest t q start at (scanning p f Empty 0)) ≡ part t at b ++ bytes (rest t q start b (after' k))
+    all_passed : {k b : ℕ} → StretchOf t (Plain q) at k b → bytes (rest t q start at (scanning p f None 0)) ≡ part t at b ++ bytes (rest t q start b (after' k))
     all_passed {k} {b} x =
-        ap (λ (l : List ℕ). l ++ bytes (rest t q start at (scanning p f Empty 0))) (sym (part_none t at at (omega arith)))
+        ap (λ (l : List ℕ). l ++ bytes (rest t q start at (scanning p f None 0))) (sym (part_none t at at (omega arith)))
         ∙ ap (λ (s : Scanning). view at (rest t q start at s)) (sym (after_none is_white t q start p f))
         ∙ stretched (string_rule is_white t q start) t after' view (Plain q) at b (λ k b c w h l. one_passed k b c w h) x (omega arith)
 
-    one_more : q ≡ backtick → {c : ℕ} → look_at t at ≡ Char c 1 → Added t (at + 1) c
-        → bytes (rest t q start at (scanning p f Empty 0)) ≡ part t at (at + 1) ++ bytes (rest t q start (at + 1) (scanning (place_behind c p) (or_else f (advanced p)) Empty 0))
+    one_more : q ≡ backtick → {c : ℕ} → look_at t at ≡ char_found c 1 → Added t (at + 1) c
+        → bytes (rest t q start at (scanning p f None 0)) ≡ part t at (at + 1) ++ bytes (rest t q start (at + 1) (scanning (place_behind c p) (or_else f (advanced p)) None 0))
     one_more h {c} e a =
-        ap (λ (l : List ℕ). l ++ bytes (rest t q start at (scanning p f Empty 0))) (sym (part_none t at at (omega arith)))
+        ap (λ (l : List ℕ). l ++ bytes (rest t q start at (scanning p f None 0))) (sym (part_none t at at (omega arith)))
         ∙ ap (view at) (one_added is_white t q start p f at e h a)
         ∙ read at c _ _
-        ∙ ap (λ (l : List ℕ). l ++ bytes (rest t q start (at + 1) (scanning (place_behind c p) (or_else f (advanced p)) Empty 0))) (part_char t at at (omega arith) e)
+        ∙ ap (λ (l : List ℕ). l ++ bytes (rest t q start (at + 1) (scanning (place_behind c p) (or_else f (advanced p)) None 0))) (part_char t at at (omega arith) e)
 
 part_size : (t : List ℕ) (at to : ℕ) → (at < to → to ≤ length t) → length (part t at to) ≡ to - at
 part_size t at to h =

@@ -1,4 +1,5 @@
 -- How a scan is led on: by nothing, by what is only taken and added, by a unit, by one thing and then another. Assumes nothing.
+use Rattle.std.specs.Prelude.{None}
 use Prim.Native.Nat.{ℕ, ◌+◌, ◌-◌, ◌≤◌, ◌<◌}
 use native.Mathlib.Omega.{arith}
 use mathlib.Core.Bool.{false}
@@ -17,8 +18,7 @@ use Rattle.string_turn.specs.Passing.{StringPasses}
 use Rattle.string_turn.specs.Passing as passing
 use Rattle.string_turn.proofs.take.Passing.{passes_low, passes_within}
 use Rattle.string_turn.specs.Take.{scanning}
-use Rattle.string_turn.specs.declared.take.Pending.{Pending}
-use Rattle.string_turn.specs.declared.take.Pending.TheVariants.{Empty}
+use Rattle.string_turn.specs.Answer.{Pending}
 use Rattle.string_turn.specs.declared.take.Stood.{Stood}
 use Rattle.string.specs.Standing.{ScanLeads, ScanLeadsAnywhere}
 use Rattle.string.specs.Units.{clear_of, stand_of, Reads}
@@ -64,10 +64,10 @@ module _ (t : List ℕ) (q : ℕ) (start : Position) (limit room : ℕ) where
         })
 
   -- a state with no escape pending is its other parts
-  as_it_stands : (from : ScanStand) → from.state.escape ≡ Empty → stand_of (clear_of from.at from.state from.n) ≡ from
+  as_it_stands : (from : ScanStand) → from.state.escape ≡ None → stand_of (clear_of from.at from.state from.n) ≡ from
   as_it_stands from e = ap (λ (x : Pending). record { at = from.at; state = scanning from.state.place from.state.first x from.state.skip; n = from.n }) (sym e)
 
-  pub cleared_leads : (from : ScanStand) → from.state.escape ≡ Empty → {here to : Clear} {r : ScanStand} {out now : List ℕ} → here ≡ clear_of from.at from.state from.n → r ≡ stand_of to
+  pub cleared_leads : (from : ScanStand) → from.state.escape ≡ None → {here to : Clear} {r : ScanStand} {out now : List ℕ} → here ≡ clear_of from.at from.state from.n → r ≡ stand_of to
       → ScanLeads t q start limit room (stand_of here) out (stand_of to) now → ScanLeads t q start limit room from out r now
   cleared_leads from e {here} {to} {r} {out} {now} h g x =
       let y : ScanLeads t q start limit room (stand_of (clear_of from.at from.state from.n)) out (stand_of to) now = rw h at x in

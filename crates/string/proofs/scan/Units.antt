@@ -1,4 +1,6 @@
 -- What is read at once, as the turns that it stands for. Assumes nothing.
+use Rattle.utf8.specs.Looks.{char_found}
+use Rattle.std.specs.Prelude.{None}
 use Prim.Native.Nat.{ℕ, ◌+◌, ◌<◌}
 use native.Mathlib.Omega.{arith}
 use native.Mathlib.Nat.{add-zero}
@@ -14,7 +16,6 @@ use Rattle.position.specs.Place.{is_none, or_else, column_number, advanced, adva
 use Rattle.position.proofs.Moves.{two_columns, first_set}
 use Rattle.utf8.specs.Table.{look_at}
 use Rattle.utf8.specs.Encode.{is_scalar, encoded}
-use Rattle.utf8.specs.declared.Look.TheVariants.{Char}
 use Rattle.utf8.proofs.Bits.{look_ascii}
 use Rattle.utf8.proofs.Encodes.{encoded_none}
 use Rattle.white.specs.White.{is_white}
@@ -27,7 +28,6 @@ use Rattle.literal.specs.Cut.{cut}
 use Rattle.literal.proofs.Turns.{cut_on, cut_adds}
 use Rattle.string_turn.specs.Kinds.{is_verbatim, is_interpolated}
 use Rattle.string_turn.specs.Take.{scanning}
-use Rattle.string_turn.specs.declared.take.Pending.TheVariants.{Empty}
 use Rattle.string_turn.specs.declared.take.Scanning.{Scanning}
 use Rattle.string.specs.Reading.{rest, Escaping, Terminating}
 use Rattle.string.proofs.Readings.{Once, once_on, Twice}
@@ -84,7 +84,7 @@ pub ascii_at : (t : List ℕ) (at : ℕ) {b c : ℕ} → b ≡ get_or t at 0 →
 ascii_at t at {b} {c} e h low high =
     let g : get_or t at 0 ≡ c = sym e ∙ h in
     ⊎_elim
-    (λ l. record { inside = l; is = sym (look_ascii t at l 1 (rw g high) refl) ∙ ap (λ (x : ℕ). Char x 1) g })
+    (λ l. record { inside = l; is = sym (look_ascii t at l 1 (rw g high) refl) ∙ ap (λ (x : ℕ). char_found x 1) g })
     (λ l. absurd (let z : get_or t at 0 ≡ 0 = get_or-eq_default t 0 l in omega (arith, z, g, low)))
     (split at (length t))
 
@@ -139,13 +139,13 @@ module _ (t : List ℕ) (q : ℕ) (here : Clear) where
 
   -- a doubled terminator: one turn
   module _ (i : TerminatorOf q) (kept : here.skip ≡ 0) (set : is_none f ≡ false) (one : StandsAt t here.at q) (two : StandsAt t (here.at + 1) q) {w : Position} (e : w ≡ advanced_by 2 p) where
-    behind_both : scanning (advanced (advanced p)) (or_else f (advanced (advanced p))) Empty 0 ≡ scanning w (or_else f (advanced p)) Empty 0
+    behind_both : scanning (advanced (advanced p)) (or_else f (advanced (advanced p))) None 0 ≡ scanning w (or_else f (advanced p)) None 0
     behind_both = rw (e, two_columns p, first_set f (advanced (advanced p)) set, first_set f (advanced p) set)
 
     pub doubled_reads : ReadsAnywhere t q here (unit q 2 w 0)
     doubled_reads start limit within =
-        let x = once_on is_white t q start here.at (scanning p f Empty 0) (doubled_taken t q start (terminates i) p f here.at one.is) (doubled_acted t q start (terminates i) p f here.at one.is two.is) in
-        rw kept (goes_as (once_goes t q start here.at (scanning p f Empty 0) limit here.n within x) (two_on here.at) behind_both)
+        let x = once_on is_white t q start here.at (scanning p f None 0) (doubled_taken t q start (terminates i) p f here.at one.is) (doubled_acted t q start (terminates i) p f here.at one.is two.is) in
+        rw kept (goes_as (once_goes t q start here.at (scanning p f None 0) limit here.n within x) (two_on here.at) behind_both)
 
   -- a whole escape: two turns
   pub escape_reads : TerminatorOf q → (q ≡ backtick → ⊥) → {x : WholeEscape} → WholeAt t q here.at x → {w : Position} → w ≡ advanced_by x.width p
@@ -183,5 +183,5 @@ module _ (t : List ℕ) (here : Clear) where
   pub sign_reads : StandsAt t here.at backslash → StandsAt t (here.at + 1) dollar → StandsAt t (here.at + 2) left_brace → {w : Position} → w ≡ advanced here.place
       → ReadsAnywhere t backtick here (unit dollar 2 w 0)
   sign_reads one two three e start limit within =
-      let brace : look_at t (here.at + 1 + 1) ≡ Char left_brace 1 = rw (two_on here.at) three.is in
+      let brace : look_at t (here.at + 1 + 1) ≡ char_found left_brace 1 = rw (two_on here.at) three.is in
       rw e (goes_as (once_goes t backtick start here.at (clear_state here) limit here.n within (sign_once is_white t start here.place here.first here.skip here.at one.is two.is brace no_white)) (two_on here.at) refl)

@@ -1,4 +1,6 @@
 -- The body written as it is read: the bytes that are left, stored from here on, make the memory that the whole body makes from the front, where it has room. Assumes nothing.
+use Rattle.std.specs.declared.ops.ControlFlow.TheVariants.{Break}
+use Rattle.std.specs.Prelude.{Err, Ok}
 use Prim.Native.Nat.{ℕ, ◌+◌, ◌≤◌}
 use native.Mathlib.Omega.{arith}
 use native.Mathlib.Nat.{zero-add}
@@ -12,8 +14,7 @@ use Rattle.white.specs.White.{is_white}
 use Rattle.chars.specs.declared.cursor.Cursor.{Cursor}
 use Rattle.literal.specs.Trace.{Trace, bytes}
 use Rattle.literal.specs.declared.Refusal.{Refusal}
-use Rattle.literal.specs.declared.Scanned.{Scanned}
-use Rattle.literal.specs.declared.Scanned.TheVariants.{Accepted, Refused}
+use Rattle.literal.specs.Scans.{Scanned, accepted_as}
 use Rattle.literal.proofs.Limits.{accepted_from}
 use Rattle.literal.specs.Answers.{full}
 use Rattle.string_turn.specs.declared.take.Scanning.{Scanning}
@@ -21,8 +22,7 @@ use Rattle.string.specs.Reading.{string_begun, string_reading, rest}
 use Rattle.string.specs.Limited.{LimitAnswers, GoesOn, Tells}
 use Rattle.string.specs.Kept.{BodyKept}
 use Rattle.string.specs.Standing.{WrittenSoFar}
-use Rattle.string.specs.declared.scan.LimitedTurn.{LimitedTurn}
-use Rattle.string.specs.declared.scan.LimitedTurn.TheVariants.{On, Over}
+use Rattle.string.specs.Answer.{LimitedTurn, turned_to}
 
 none_left : (l : List ℕ) → length l ≡ 0 → l ≡ []
 none_left [] e = refl
@@ -49,20 +49,16 @@ module _ (t : List ℕ) (q : ℕ) (from : Cursor) (old out : List ℕ) (at : ℕ
 
   -- a turn that goes on
   module _ (limit : ℕ) {x : LimitedTurn} (g : Tells limit n t q from.place at s x) where
-    pub written_more : {d next : ℕ} {r : Scanning} → x ≡ On d next r → {m : ℕ} → m ≡ length (encoded d) → {l : List ℕ} → l ≡ stored out n (encoded d) → WrittenSoFar t q from old l next r (n + m)
+    pub written_more : {d next : ℕ} {r : Scanning} → x ≡ turned_to d next r → {m : ℕ} → m ≡ length (encoded d) → {l : List ℕ} → l ≡ stored out n (encoded d) → WrittenSoFar t q from old l next r (n + m)
     written_more {d} {next} {r} e z v =
         let w : GoesOn limit n t q from.place at s d next r = rw e at g in
         written_on (encoded d) w.body (rw z) v
 
     -- and one that is over: nothing is left of what is accepted
-    pub written_over : (a : Scanned) → x ≡ Over a → BodyKept a (string_reading is_white t q from) old out
-    written_over (Accepted end m) e =
-        let w : LimitAnswers limit n (rest t q from.place at s) (Accepted end m) = rw e at g in
+    pub written_over : (a : Scanned) → x ≡ Break a → BodyKept a (string_reading is_white t q from) old out
+    written_over (Ok (end, m)) e =
+        let w : LimitAnswers limit n (rest t q from.place at s) (accepted_as end m) = rw e at g in
         let d = accepted_from (full from) limit n n (rest t q from.place at s) end m (omega arith) (w.is (full from) n) in
         let z : bytes (rest t q from.place at s) ≡ [] = none_left _ (omega (arith, d.0, d.1)) in
         λ h. sym (i.is h ∙ rw z) ∙ sets_front old (bytes (string_reading is_white t q from)) h
-    written_over (Refused f) e = tt
-
--- for want of room nothing is kept
-pub full_kept : {a : Scanned} {f : Refusal} (x : Trace) (old out : List ℕ) → a ≡ Refused f → BodyKept a x old out
-full_kept x old out e = rw e tt
+    written_over (Err f) e = tt

@@ -1,4 +1,6 @@
 -- Where acting on a character leads: on, or to an end of the literal behind the character. Assumes nothing.
+use Rattle.std.specs.declared.ops.ControlFlow.TheVariants.{Break, Continue}
+use Rattle.std.specs.Prelude.{Err, None, Ok, Some}
 use Prim.Native.Nat.{ℕ, ◌≤◌, ◌<◌}
 use native.Mathlib.Omega.{arith}
 use mathlib.Core.Bool.{Bool, false}
@@ -19,21 +21,17 @@ use Rattle.escape.specs.declared.Escaped.TheVariants as escaped
 use Rattle.string_turn.specs.Kinds.{is_verbatim, is_continued}
 use Rattle.string_turn.specs.Endings.{malformed_at}
 use Rattle.string_turn.specs.Take.{scanning, is_empty, next_is}
-use Rattle.string_turn.specs.declared.take.Pending.{Pending}
-use Rattle.string_turn.specs.declared.take.Pending.TheVariants.{Empty, Backslash}
+use Rattle.string_turn.specs.Answer.{Pending, goes_with}
 use Rattle.string_turn.specs.declared.take.Scanning.{Scanning}
-use Rattle.string_turn.specs.declared.take.Last.TheVariants.{Good, Bad}
 use Rattle.string_turn.proofs.take.Lands.{LastLands}
 use Rattle.string_turn.specs.Act.{close_of, line_feed_of, on_escaped, escape_of, add_of, plain_of, on_pending, other_of, match_of, on_closing, act_of}
-use Rattle.string_turn.specs.declared.act.Acted.{Acted}
-use Rattle.string_turn.specs.declared.act.Acted.TheVariants as acted
-use Rattle.string_turn.specs.declared.act.Closing.{Closing}
-use Rattle.string_turn.specs.declared.act.Closing.TheVariants.{Closed, Open}
+use Rattle.string_turn.specs.Answer.{Acted}
+use Rattle.string_turn.specs.Answer.{Closing}
 
 -- a step that is over, from an offset
 abbrev pub StepLands : List ℕ → ℕ → Acted → Type 0
-StepLands t at (acted.Go d next r) = Unit {0}
-StepLands t at (acted.Over last) = LastLands t at last
+StepLands t at (Continue (d, next, r)) = Unit {0}
+StepLands t at (Break last) = LastLands t at last
 
 module _ (white : ℕ → Bool) (t : List ℕ) (q : ℕ) (start : Position) (a : ℕ) where
   add_lands : (c at : ℕ) (s : Scanning) → StepLands t a (add_of white c at s)
@@ -45,8 +43,8 @@ module _ (white : ℕ → Bool) (t : List ℕ) (q : ℕ) (start : Position) (a :
   escape_lands c from at s = by (escaped_of t c (cursor at s.place))
     where
       by : (x : Escaped)
-          → StepLands t a (on_escaped x (λ d next. acted.Go d next.at (scanning next.place s.first Empty s.skip)) (λ next. acted.Over (Bad (malformed_at q from next)))
-          (pick (eqb c q) (acted.Go q at (scanning s.place s.first Empty s.skip)) (acted.Over (Bad (malformed_at q from (cursor at s.place))))))
+          → StepLands t a (on_escaped x (λ d next. goes_with d next.at (scanning next.place s.first None s.skip)) (λ next. Break (Err (malformed_at q from next)))
+          (pick (eqb c q) (goes_with q at (scanning s.place s.first None s.skip)) (Break (Err (malformed_at q from (cursor at s.place))))))
       by (escaped.Char d next) = tt
       by (escaped.Malformed next) = tt
       by escaped.Other = pick_cases (StepLands t a) (eqb c q) _ _ (λ y. tt) (λ y. tt)
@@ -56,8 +54,8 @@ module _ (white : ℕ → Bool) (t : List ℕ) (q : ℕ) (start : Position) (a :
   other_lands c at s = by s.escape
     where
       by : (e : Pending) → StepLands t a (on_pending e (plain_of white q c at s) (λ from. escape_of t q c from at s))
-      by Empty = pick_cases (StepLands t a) (both (isnt (is_verbatim q)) (eqb c backslash)) _ _ (λ y. tt) (λ y. add_lands c at s)
-      by (Backslash from) = escape_lands c from at s
+      by None = pick_cases (StepLands t a) (both (isnt (is_verbatim q)) (eqb c backslash)) _ _ (λ y. tt) (λ y. add_lands c at s)
+      by (Some from) = escape_lands c from at s
 
   match_lands : (c at : ℕ) (s : Scanning) → StepLands t a (match_of white t q start c at s)
   unfolding match_of line_feed_of
@@ -73,6 +71,6 @@ module _ (white : ℕ → Bool) (t : List ℕ) (q : ℕ) (start : Position) (a :
   act_lands c here s f l = by (close_of t q c here s.escape)
     where
       by : (x : Closing)
-          → StepLands t a (on_closing x (acted.Over (Good (ending here s.first nothing false))) (λ to. match_of white t q start c to.at (scanning to.place (or_else s.first to.place) s.escape s.skip)))
-      by Closed = (omega arith, λ h. l, λ z. f)
-      by (Open to) = match_lands c to.at _
+          → StepLands t a (on_closing x (Break (Ok (ending here s.first nothing false))) (λ to. match_of white t q start c to.at (scanning to.place (or_else s.first to.place) s.escape s.skip)))
+      by None = (omega arith, λ h. l, λ z. f)
+      by (Some to) = match_lands c to.at _

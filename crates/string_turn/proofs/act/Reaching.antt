@@ -1,4 +1,6 @@
 -- What acting on a character keeps to, whatever the state: it goes on by whole characters, and no refusal of its own is 7 or 9. Assumes nothing.
+use Rattle.std.specs.declared.ops.ControlFlow.TheVariants.{Break, Continue}
+use Rattle.std.specs.Prelude.{Err, None, Ok, Some}
 use Prim.Native.Nat.{ℕ}
 use native.Mathlib.Omega.{arith}
 use mathlib.Core.Bool.{Bool, false}
@@ -11,8 +13,7 @@ use Rattle.position.specs.declared.Position.{Position}
 use Rattle.position.specs.Place.{rewound, or_else, column_number}
 use Rattle.chars.specs.Cursors.{cursor, eat_next_of}
 use Rattle.chars.specs.declared.cursor.Cursor.{Cursor}
-use Rattle.chars.specs.declared.cursor.Taken.{Taken}
-use Rattle.chars.specs.declared.cursor.Taken.TheVariants as taken
+use Rattle.chars.specs.Takes.{Taken}
 use Rattle.chars.proofs.Cursors.{ate_took}
 use Rattle.classes.specs.Marks.{lf, cr, backslash}
 use Rattle.literal.specs.Answers.{nothing, ending}
@@ -24,27 +25,23 @@ use Rattle.escape.proofs.Ways.{ReachedBy, escaped_reached}
 use Rattle.string_turn.specs.Kinds.{is_verbatim, is_continued}
 use Rattle.string_turn.specs.Endings.{malformed_at}
 use Rattle.string_turn.specs.Take.{scanning, is_empty, next_is}
-use Rattle.string_turn.specs.declared.take.Pending.{Pending}
-use Rattle.string_turn.specs.declared.take.Pending.TheVariants.{Empty, Backslash}
+use Rattle.string_turn.specs.Answer.{Pending, goes_with}
 use Rattle.string_turn.specs.declared.take.Scanning.{Scanning}
-use Rattle.string_turn.specs.declared.take.Last.TheVariants.{Good, Bad}
 use Rattle.string_turn.proofs.take.Reaching.{Fair, unterminated_fair}
 use Rattle.string_turn.specs.Act.{close_of, line_feed_of, on_escaped, escape_of, add_of, plain_of, on_pending, other_of, match_of, on_closing, act_of}
-use Rattle.string_turn.specs.declared.act.Acted.{Acted}
-use Rattle.string_turn.specs.declared.act.Acted.TheVariants as acted
-use Rattle.string_turn.specs.declared.act.Closing.{Closing}
-use Rattle.string_turn.specs.declared.act.Closing.TheVariants.{Closed, Open}
+use Rattle.string_turn.specs.Answer.{Acted}
+use Rattle.string_turn.specs.Answer.{Closing}
 
 -- a step from an offset
 abbrev pub Steps : List ℕ → ℕ → Acted → Type 0
-Steps t a (acted.Go c next s) = Reached t a next
-Steps t a (acted.Over last) = Fair last
+Steps t a (Continue (c, next, s)) = Reached t a next
+Steps t a (Break last) = Fair last
 
 abbrev Opens : List ℕ → ℕ → Closing → Type 0
-Opens t a Closed = Unit {0}
-Opens t a (Open here) = Reached t a here.at
+Opens t a None = Unit {0}
+Opens t a (Some here) = Reached t a here.at
 
-malformed_fair : (q from : ℕ) (here : Cursor) → Fair (Bad (malformed_at q from here))
+malformed_fair : (q from : ℕ) (here : Cursor) → Fair (Err (malformed_at q from here))
 unfolding malformed_at
 malformed_fair q from here = (λ e. omega arith, λ e. omega arith, λ e. omega arith)
 
@@ -53,9 +50,9 @@ module _ (t : List ℕ) where
   unfolding close_of
   close_opens q c here e = pick_cases (Opens t here.at) (both (eqb c q) (is_empty e)) _ _ (λ _. by (eat_next_of t here) refl) (λ _. there)
     where
-      by : (x : Taken) → eat_next_of t here ≡ x → Opens t here.at (on_taken x (λ d next. pick (eqb d q) (Open next) Closed) Closed)
-      by (taken.Char d next) e = pick_cases (Opens t here.at) (eqb d q) _ _ (λ _. took_reached (ate_took t here e)) (λ _. tt)
-      by taken.End e = tt
+      by : (x : Taken) → eat_next_of t here ≡ x → Opens t here.at (on_taken x (λ d next. pick (eqb d q) (Some next) None) None)
+      by (Some (d, next)) e = pick_cases (Opens t here.at) (eqb d q) _ _ (λ _. took_reached (ate_took t here e)) (λ _. tt)
+      by None e = tt
 
   line_feed_steps : (q : ℕ) (start : Position) (at : ℕ) (s : Scanning) → Steps t at (line_feed_of q start at s)
   unfolding line_feed_of
@@ -69,8 +66,8 @@ module _ (t : List ℕ) where
   escape_steps q c from at s = by (escaped_of t c (cursor at s.place)) (escaped_reached t c (cursor at s.place))
     where
       by : (x : Escaped) → ReachedBy t at x
-          → Steps t at (on_escaped x (λ d next. acted.Go d next.at (scanning next.place s.first Empty s.skip)) (λ next. acted.Over (Bad (malformed_at q from next)))
-          (pick (eqb c q) (acted.Go q at (scanning s.place s.first Empty s.skip)) (acted.Over (Bad (malformed_at q from (cursor at s.place))))))
+          → Steps t at (on_escaped x (λ d next. goes_with d next.at (scanning next.place s.first None s.skip)) (λ next. Break (Err (malformed_at q from next)))
+          (pick (eqb c q) (goes_with q at (scanning s.place s.first None s.skip)) (Break (Err (malformed_at q from (cursor at s.place))))))
       by (escaped.Char d next) p = p
       by (escaped.Malformed next) p = malformed_fair q from next
       by escaped.Other p = pick_cases (Steps t at) (eqb c q) _ _ (λ _. there) (λ _. malformed_fair q from (cursor at s.place))
@@ -89,8 +86,8 @@ module _ (t : List ℕ) where
     other_steps q c at s = by s.escape
       where
         by : (e : Pending) → Steps t at (on_pending e (plain_of white q c at s) (λ from. escape_of t q c from at s))
-        by Empty = plain_steps q c at s
-        by (Backslash from) = escape_steps q c from at s
+        by None = plain_steps q c at s
+        by (Some from) = escape_steps q c from at s
 
     match_steps : (q : ℕ) (start : Position) (c at : ℕ) (s : Scanning) → Steps t at (match_of white t q start c at s)
     unfolding match_of
@@ -99,8 +96,8 @@ module _ (t : List ℕ) where
         (λ _. pick_cases (Steps t at) (eqb c lf) _ _ (λ _. line_feed_steps q start at s) (λ _. other_steps q c at s))
 
     from_there : {a b : ℕ} (x : Acted) → Reached t a b → Steps t b x → Steps t a x
-    from_there (acted.Go c next s) p q = and_on p q
-    from_there (acted.Over last) p q = q
+    from_there (Continue (c, next, s)) p q = and_on p q
+    from_there (Break last) p q = q
 
     pub act_steps : (q : ℕ) (start : Position) (c : ℕ) (at : Cursor) (s : Scanning) → Steps t at.at (act_of white t q start c at s)
     unfolding act_of
@@ -110,6 +107,6 @@ module _ (t : List ℕ) where
         next here = scanning here.place (or_else s.first here.place) s.escape s.skip
 
         by : (x : Closing) → Opens t at.at x
-            → Steps t at.at (on_closing x (acted.Over (Good (ending at s.first nothing false))) (λ here. match_of white t q start c here.at (next here)))
-        by Closed p = tt
-        by (Open here) p = from_there (match_of white t q start c here.at (next here)) p (match_steps q start c here.at (next here))
+            → Steps t at.at (on_closing x (Break (Ok (ending at s.first nothing false))) (λ here. match_of white t q start c here.at (next here)))
+        by None p = tt
+        by (Some here) p = from_there (match_of white t q start c here.at (next here)) p (match_steps q start c here.at (next here))

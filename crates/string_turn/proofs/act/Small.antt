@@ -1,4 +1,6 @@
 -- What acting on a character leads to is small. Assumes nothing.
+use Rattle.std.specs.declared.ops.ControlFlow.TheVariants.{Break, Continue}
+use Rattle.std.specs.Prelude.{Err, None, Ok, Some}
 use Prim.Native.Nat.{ℕ, ◌≤◌}
 use native.Mathlib.Omega.{arith}
 use mathlib.Core.Bool.{Bool, false}
@@ -12,8 +14,7 @@ use Rattle.position.specs.Place.{rewound, or_else, column_number}
 use Rattle.position.proofs.Small.{Small, lined_small}
 use Rattle.chars.specs.Cursors.{cursor, eat_next_of}
 use Rattle.chars.specs.declared.cursor.Cursor.{Cursor}
-use Rattle.chars.specs.declared.cursor.Taken.{Taken}
-use Rattle.chars.specs.declared.cursor.Taken.TheVariants as taken
+use Rattle.chars.specs.Takes.{Taken}
 use Rattle.chars.proofs.Small.{In, TakenIn, ate_in}
 use Rattle.classes.specs.Marks.{lf, cr, backslash}
 use Rattle.literal.specs.Answers.{nothing, ending}
@@ -24,35 +25,31 @@ use Rattle.escape.proofs.Small.{EscapedIn, escaped_in}
 use Rattle.string_turn.specs.Kinds.{is_verbatim, is_continued}
 use Rattle.string_turn.specs.Endings.{malformed_at}
 use Rattle.string_turn.specs.Take.{scanning, is_empty, next_is}
-use Rattle.string_turn.specs.declared.take.Pending.{Pending}
-use Rattle.string_turn.specs.declared.take.Pending.TheVariants.{Empty, Backslash}
+use Rattle.string_turn.specs.Answer.{Pending, goes_with}
 use Rattle.string_turn.specs.declared.take.Scanning.{Scanning}
-use Rattle.string_turn.specs.declared.take.Last.TheVariants.{Good, Bad}
 use Rattle.string_turn.proofs.take.Small.{LastSmall, unterminated_small}
 use Rattle.string_turn.specs.Act.{close_of, line_feed_of, on_escaped, escape_of, add_of, plain_of, on_pending, other_of, match_of, on_closing, act_of}
-use Rattle.string_turn.specs.declared.act.Acted.{Acted}
-use Rattle.string_turn.specs.declared.act.Acted.TheVariants as acted
-use Rattle.string_turn.specs.declared.act.Closing.{Closing}
-use Rattle.string_turn.specs.declared.act.Closing.TheVariants.{Closed, Open}
+use Rattle.string_turn.specs.Answer.{Acted}
+use Rattle.string_turn.specs.Answer.{Closing}
 
 module _ (t : List ℕ) where
   -- an escape that is pending began within the text
   abbrev pub PendingIn : Pending → Type 0
-  PendingIn Empty = Unit {0}
-  PendingIn (Backslash from) = from ≤ length t
+  PendingIn None = Unit {0}
+  PendingIn (Some from) = from ≤ length t
 
   abbrev pub StateSmall : Scanning → Type 0
   StateSmall s = Small s.place × PendingIn s.escape
 
   abbrev pub StepSmall : Acted → Type 0
-  StepSmall (acted.Go c next s) = StateSmall s
-  StepSmall (acted.Over last) = LastSmall t last
+  StepSmall (Continue (c, next, s)) = StateSmall s
+  StepSmall (Break last) = LastSmall t last
 
   abbrev ClosingIn : Closing → Type 0
-  ClosingIn Closed = Unit {0}
-  ClosingIn (Open here) = In t here
+  ClosingIn None = Unit {0}
+  ClosingIn (Some here) = In t here
 
-  malformed_small : (q from : ℕ) (here : Cursor) → from ≤ length t → In t here → LastSmall t (Bad (malformed_at q from here))
+  malformed_small : (q from : ℕ) (here : Cursor) → from ≤ length t → In t here → LastSmall t (Err (malformed_at q from here))
   unfolding malformed_at
   malformed_small q from here h k = record { number = omega arith; place = k.0; at = h; len = omega (arith, k.1) }
 
@@ -60,9 +57,9 @@ module _ (t : List ℕ) where
   unfolding close_of
   close_in q c here e h = pick_cases ClosingIn (both (eqb c q) (is_empty e)) _ _ (λ _. by (eat_next_of t here) (ate_in t here h.0)) (λ _. h)
     where
-      by : (x : Taken) → TakenIn t x → ClosingIn (on_taken x (λ d next. pick (eqb d q) (Open next) Closed) Closed)
-      by (taken.Char d next) k = pick_cases ClosingIn (eqb d q) _ _ (λ _. k) (λ _. tt)
-      by taken.End k = tt
+      by : (x : Taken) → TakenIn t x → ClosingIn (on_taken x (λ d next. pick (eqb d q) (Some next) None) None)
+      by (Some (d, next)) k = pick_cases ClosingIn (eqb d q) _ _ (λ _. k) (λ _. tt)
+      by None k = tt
 
   module _ (at : ℕ) (l : at ≤ length t) (s : Scanning) (h : StateSmall s) where
     line_feed_small : (q : ℕ) (start : Position) → Small start → StepSmall (line_feed_of q start at s)
@@ -77,8 +74,8 @@ module _ (t : List ℕ) where
     escape_small q c from f = by (escaped_of t c (cursor at s.place)) (escaped_in t c (cursor at s.place) (h.0, l))
       where
         by : (x : Escaped) → EscapedIn t x
-            → StepSmall (on_escaped x (λ d next. acted.Go d next.at (scanning next.place s.first Empty s.skip)) (λ next. acted.Over (Bad (malformed_at q from next)))
-            (pick (eqb c q) (acted.Go q at (scanning s.place s.first Empty s.skip)) (acted.Over (Bad (malformed_at q from (cursor at s.place))))))
+            → StepSmall (on_escaped x (λ d next. goes_with d next.at (scanning next.place s.first None s.skip)) (λ next. Break (Err (malformed_at q from next)))
+            (pick (eqb c q) (goes_with q at (scanning s.place s.first None s.skip)) (Break (Err (malformed_at q from (cursor at s.place))))))
         by (escaped.Char d next) p = (p.0, tt)
         by (escaped.Malformed next) p = malformed_small q from next f p
         by escaped.Other p = pick_cases StepSmall (eqb c q) _ _ (λ _. (h.0, tt)) (λ _. malformed_small q from (cursor at s.place) f (h.0, l))
@@ -97,8 +94,8 @@ module _ (t : List ℕ) where
       other_small = by s.escape h.1
         where
           by : (e : Pending) → PendingIn e → StepSmall (on_pending e (plain_of white q c at s) (λ from. escape_of t q c from at s))
-          by Empty k = plain_small
-          by (Backslash from) k = escape_small q c from k
+          by None k = plain_small
+          by (Some from) k = escape_small q c from k
 
       match_small : (start : Position) → Small start → StepSmall (match_of white t q start c at s)
       unfolding match_of
@@ -114,6 +111,6 @@ module _ (t : List ℕ) where
       next to = scanning to.place (or_else s.first to.place) s.escape s.skip
 
       by : (x : Closing) → ClosingIn x
-          → StepSmall (on_closing x (acted.Over (Good (ending here s.first nothing false))) (λ to. match_of white t q start c to.at (next to)))
-      by Closed p = i.0
-      by (Open to) p = match_small to.at p.1 (next to) (p.0, h.1) white q c start k
+          → StepSmall (on_closing x (Break (Ok (ending here s.first nothing false))) (λ to. match_of white t q start c to.at (next to)))
+      by None p = i.0
+      by (Some to) p = match_small to.at p.1 (next to) (p.0, h.1) white q c start k

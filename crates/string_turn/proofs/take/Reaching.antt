@@ -1,4 +1,6 @@
 -- What taking a character keeps to, whatever the state: it goes on by whole characters, and no refusal of its own is 7 or 9. Assumes nothing.
+use Rattle.std.specs.declared.ops.ControlFlow.TheVariants.{Break, Continue}
+use Rattle.std.specs.Prelude.{Err, None, Ok, Some}
 use Prim.Native.Nat.{ℕ}
 use native.Mathlib.Omega.{arith}
 use mathlib.Core.List.{List}
@@ -11,8 +13,7 @@ use Rattle.position.specs.Place.{advanced}
 use Rattle.fault.specs.Faults.{Own}
 use Rattle.chars.specs.Cursors.{cursor, get_next_of, eat_next_of}
 use Rattle.chars.specs.declared.cursor.Cursor.{Cursor}
-use Rattle.chars.specs.declared.cursor.Taken.{Taken}
-use Rattle.chars.specs.declared.cursor.Taken.TheVariants as taken
+use Rattle.chars.specs.Takes.{Taken}
 use Rattle.chars.proofs.Cursors.{got_took, ate_took}
 use Rattle.chars.proofs.Reaches.{Further, further_on, took_reached, took_further}
 use Rattle.classes.specs.Marks.{dollar, backslash, left_brace}
@@ -21,22 +22,20 @@ use Rattle.string_turn.specs.Kinds.{is_verbatim, is_continued, is_interpolated}
 use Rattle.string_turn.specs.Endings.{unterminated_at}
 use Rattle.string_turn.specs.Take.{is_empty, next_is, input_end, dollar_of, take_of}
 use Rattle.string_turn.specs.declared.take.Scanning.{Scanning}
-use Rattle.string_turn.specs.declared.take.Last.{Last}
-use Rattle.string_turn.specs.declared.take.Last.TheVariants.{Good, Bad}
-use Rattle.string_turn.specs.declared.take.Got.{Got}
-use Rattle.string_turn.specs.declared.take.Got.TheVariants as got
+use Rattle.string_turn.specs.Answer.{Last, got_char}
+use Rattle.string_turn.specs.Answer.{Got}
 
 -- no limit and no room causes it
 abbrev pub Fair : Last → Type 0
-Fair (Good e) = Unit {0}
-Fair (Bad f) = Own f.fault
+Fair (Ok e) = Unit {0}
+Fair (Err f) = Own f.fault
 
 -- a character taken from an offset
 abbrev pub Gets : List ℕ → ℕ → Got → Type 0
-Gets t a (got.Char c here) = Further t a here.at
-Gets t a (got.Over last) = Fair last
+Gets t a (Continue (c, here)) = Further t a here.at
+Gets t a (Break last) = Fair last
 
-pub unterminated_fair : (start : Position) (here : Cursor) → Fair (Bad (unterminated_at start here))
+pub unterminated_fair : (start : Position) (here : Cursor) → Fair (Err (unterminated_at start here))
 unfolding unterminated_at
 unterminated_fair start here = (λ e. omega arith, λ e. omega arith, λ e. omega arith)
 
@@ -55,22 +54,22 @@ module _ (t : List ℕ) where
       (λ _. pick_cases (Gets t a) (eqb c backslash) _ _ (λ _. by (get_next_of t here) refl) (λ _. f))
     where
       by : (x : Taken) → get_next_of t here ≡ x
-          → Gets t a (on_taken x (λ d next. pick (both (eqb d dollar) (next_is t next.at left_brace)) (got.Char dollar next) (got.Char c here)) (got.Char c here))
-      by (taken.Char d next) e =
+          → Gets t a (on_taken x (λ d next. pick (both (eqb d dollar) (next_is t next.at left_brace)) (got_char dollar next) (got_char c here)) (got_char c here))
+      by (Some (d, next)) e =
           pick_cases (Gets t a) (both (eqb d dollar) (next_is t next.at left_brace)) _ _
           (λ _. further_on f (took_reached (got_took t here e)))
           (λ _. f)
-      by taken.End e = f
+      by None e = f
 
   pub take_gets : (q : ℕ) (start : Position) (at : ℕ) (s : Scanning) → Gets t at (take_of t q start at s)
   unfolding take_of
   take_gets q start at s = by (eat_next_of t (cursor at s.place)) refl
     where
       by : (x : Taken) → eat_next_of t (cursor at s.place) ≡ x
-          → Gets t at (on_taken x (λ c here. pick (both (is_interpolated q) (is_empty s.escape)) (dollar_of t c here s.first) (got.Char c here)) (got.Over (input_end q start at s)))
-      by (taken.Char c here) e =
+          → Gets t at (on_taken x (λ c here. pick (both (is_interpolated q) (is_empty s.escape)) (dollar_of t c here s.first) (got_char c here)) (Break (input_end q start at s)))
+      by (Some (c, here)) e =
           let f : Further t at here.at = took_further (ate_took t (cursor at s.place) e) in
           pick_cases (Gets t at) (both (is_interpolated q) (is_empty s.escape)) _ _
           (λ _. dollar_gets at c here s.first f)
           (λ _. f)
-      by taken.End e = end_fair q start at s
+      by None e = end_fair q start at s

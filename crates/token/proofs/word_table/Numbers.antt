@@ -73,17 +73,6 @@ number_same (a ∷ w) (b ∷ s) p q h k e =
     (split (length w) (length s))
 
 -- ---- how great a number is
-grows : (s : List ℕ) (v : ℕ) → v ≤ number_from v s
-unfolding number_from
-grows [] v = le_refl v
-grows (b ∷ s) v = omega (arith, grows s (v * 256 + b))
-
--- a text that begins with another byte than 0 has another number
-pub positive : (s : List ℕ) → 1 ≤ get_or s 0 0 → 1 ≤ word_number s
-unfolding word_number number_from
-positive [] h = absurd (omega arith)
-positive (b ∷ s) h = omega (arith, h, grows s (0 * 256 + b))
-
 -- what a number of i bytes is below
 unfoldable pub bound : ℕ → ℕ
 bound zero = 1
@@ -92,17 +81,6 @@ bound (suc i) = bound i * 256
 pub bound_on : (i v b : ℕ) → v < bound i → b < 256 → v * 256 + b < bound (suc i)
 unfolding bound
 bound_on i v b h k = omega arith
-
--- and a byte fewer
-pub bound_down : (i v q : ℕ) → v < bound (suc i) → q * 256 ≤ v → q < bound i
-unfolding bound
-bound_down i v q h k = omega arith
-
--- only 0 has no byte
-pub bound_some : (i v : ℕ) → v < bound i → 0 < v → 0 < i
-unfolding bound
-bound_some zero v h k = omega arith
-bound_some (suc i) v h k = omega arith
 
 bound_grows : (k i : ℕ) → bound i ≤ bound (k + i)
 unfolding bound

@@ -1,4 +1,5 @@
 -- 11, 12 and 13 before 10; else the body is written and the entry made.
+use Rattle.std.specs.Prelude.{Err, Ok}
 use Prim.Native.Nat.{ℕ, ◌+◌, ◌≤◌}
 use native.Mathlib.Omega.{arith}
 use mathlib.Core.Bool.{Bool, false}
@@ -9,19 +10,17 @@ use Rattle.chars.specs.declared.cursor.Cursor.{Cursor}
 use Rattle.fault.specs.declared.Fault.{Fault}
 use Rattle.literal.specs.Trace.{bytes}
 use Rattle.reading.specs.declared.Bounds.{Bounds}
-use Rattle.reading.specs.declared.Ending.TheVariants.{Stop}
 use Rattle.script.specs.Rules.{document01}
 use Rattle.script.specs.States.{state, begun}
 use Rattle.script.specs.Steps.{Step, literal_trace, verdict_of, literal_step}
 use Rattle.script.specs.declared.State.{State}
-use Rattle.script.specs.declared.Verdict.{Verdict}
-use Rattle.script.specs.declared.Verdict.TheVariants as verdict
+use Rattle.script.specs.Verdicts.{Verdict, all_fine}
 use Rattle.turn.specs.Turns.{step_next, Turns}
 use Rattle.turn.specs.declared.Next.TheVariants.{Over}
 use Rattle.token.specs.Tokens.{EOF}
 use Rattle.turn.proofs.Reading.{over_turn, over_kept, whole, wrong_next, full_next, listed_leads, listed_kept}
 use Rattle.turn.proofs.accepted.Goals as goal
-use Rattle.turn.proofs.accepted.Goals.{In-Fine, Start}
+use Rattle.turn.proofs.accepted.Goals.{In-Ok, Start}
 
 -- the literal that was accepted, in a run with so many interpolations open
 module _ (k : Start) where
@@ -56,13 +55,13 @@ module _ (k : Start) where
     step = literal_step document01 text k.args.read.opener k.args.read.from s
 
     -- it stops with a fault, and nothing is written
-    stops : (f : Fault) (to : Cursor) → step_next b n used step ≡ Over (Stop f) → Turns b n used s step (record { piece = false; token = EOF; to = to; used = used; next = Over (Stop f) }) literals literals
+    stops : (f : Fault) (to : Cursor) → step_next b n used step ≡ Over (Err f) → Turns b n used s step (record { piece = false; token = EOF; to = to; used = used; next = Over (Err f) }) literals literals
     stops f to h = record { leads = (sym (over_turn b n used s step h), tt); literals = sym (over_kept b n used s step h literals) }
 
 -- where nothing is wrong
-module _ (told : In-Fine) where
-  fine : (verdict_of told.args.read.opener told.args.level told.args.read.from told.args.read.end (bytes (literal_trace document01 told.args.text.now told.args.read.opener told.args.read.from))) ≡ verdict.Fine
-  fine = sym told.verdict-verdict.ensures ∙ told.in-Fine.is
+module _ (told : In-Ok) where
+  fine : (verdict_of told.args.read.opener told.args.level told.args.read.from told.args.read.end (bytes (literal_trace document01 told.args.text.now told.args.read.opener told.args.read.from))) ≡ all_fine
+  fine = sym told.verdict-verdict.ensures ∙ told.in-Ok.is
 
 pub overflow_add-after : goal.overflow_add-after
 overflow_add-after c = omega (arith, (sized (goal.at.overflow_add-after c).Start).1)
@@ -79,16 +78,16 @@ list-requires c = refl
 pub returns-then-room : goal.returns-then-room
 returns-then-room c =
     λ at braces due. rw c.list.ensures (record {
-      leads = listed_leads c.args.room.bounds c.args.room.listed c.args.room.used document01 c.args.text.now c.args.read.opener c.args.read.from (s (goal.at.returns-then-room c).Start at braces due) c.requires.accepted (fine (goal.at.returns-then-room c).In-Fine) c.if-room.true;
-      literals = c.write.ensures ∙ sym (listed_kept c.args.room.bounds c.args.room.listed c.args.room.used document01 c.args.text.now c.args.read.opener c.args.read.from (s (goal.at.returns-then-room c).Start at braces due) c.requires.accepted (fine (goal.at.returns-then-room c).In-Fine) c.if-room.true c.args.literals.now);
+      leads = listed_leads c.args.room.bounds c.args.room.listed c.args.room.used document01 c.args.text.now c.args.read.opener c.args.read.from (s (goal.at.returns-then-room c).Start at braces due) c.requires.accepted (fine (goal.at.returns-then-room c).In-Ok) c.if-room.true;
+      literals = c.write.ensures ∙ sym (listed_kept c.args.room.bounds c.args.room.listed c.args.room.used document01 c.args.text.now c.args.read.opener c.args.read.from (s (goal.at.returns-then-room c).Start at braces due) c.requires.accepted (fine (goal.at.returns-then-room c).In-Ok) c.if-room.true c.args.literals.now);
     })
 
-pub returns-in-Wrong : goal.returns-in-Wrong
-returns-in-Wrong c =
-    let wrong = sym c.verdict-verdict.ensures ∙ c.in-Wrong.is in
-    λ at braces due. rw c.over.ensures (stops (goal.at.returns-in-Wrong c).Start at braces due _ _ (wrong_next c.args.room.bounds c.args.room.listed c.args.room.used document01 c.args.text.now c.args.read.opener c.args.read.from (s (goal.at.returns-in-Wrong c).Start at braces due) c.requires.accepted wrong))
+pub returns-in-Err : goal.returns-in-Err
+returns-in-Err c =
+    let wrong = sym c.verdict-verdict.ensures ∙ c.in-Err.is in
+    λ at braces due. rw c.over.ensures (stops (goal.at.returns-in-Err c).Start at braces due _ _ (wrong_next c.args.room.bounds c.args.room.listed c.args.room.used document01 c.args.text.now c.args.read.opener c.args.read.from (s (goal.at.returns-in-Err c).Start at braces due) c.requires.accepted wrong))
 
 pub returns-else-room : goal.returns-else-room
 returns-else-room c =
     λ at braces due. rw c.stop.ensures
-    (stops (goal.at.returns-else-room c).Start at braces due _ _ (full_next c.args.room.bounds c.args.room.listed c.args.room.used document01 c.args.text.now c.args.read.opener c.args.read.from (s (goal.at.returns-else-room c).Start at braces due) c.requires.accepted (fine (goal.at.returns-else-room c).In-Fine) c.if-room.false))
+    (stops (goal.at.returns-else-room c).Start at braces due _ _ (full_next c.args.room.bounds c.args.room.listed c.args.room.used document01 c.args.text.now c.args.read.opener c.args.read.from (s (goal.at.returns-else-room c).Start at braces due) c.requires.accepted (fine (goal.at.returns-else-room c).In-Ok) c.if-room.false))

@@ -7,7 +7,7 @@ use lib.Dec.{eqb}
 use lib.ListN.{length}
 use Rattle.basis.specs.Store.{over}
 use Rattle.utf8.specs.Table.{chars, look_at}
-use Rattle.utf8.specs.declared.Look.{Look}
+use Rattle.utf8.specs.Looks.{Look}
 use Rattle.turn.proofs.OneCharacter.{alone}
 use Rattle.turn.proofs.Literals.{body, body_long, body_alone}
 use Rattle.turn.proofs.is_one_character.Goals as goal
@@ -35,4 +35,4 @@ returns-in_default c = ap (λ (x : Look). alone x c.args.read.len) (sym c.in_def
 
 pub returns : goal.returns
 returns c =
-    ap (λ (x : Look). alone x c.args.read.len) (sym c.in-Char.is) ∙ seen (goal.at.returns c).After-look_at
+    ap (λ (x : Look). alone x c.args.read.len) (sym c.in-Some.is) ∙ seen (goal.at.returns c).After-look_at

@@ -1,9 +1,9 @@
--- Each range ends further on than it began, so the code points left fall.
+-- Each range begins further on than the last one, so the code points left fall.
 use Rattle.std.proofs.Common.{◌≤◌, ◌-◌}
 use Rattle.unicode_ranges.proofs.list.Given as goal
 
-abbrev pub invariant-loop-at : goal.invariant-loop-at
-invariant-loop-at g l = l.at ≤ 0x110000
+abbrev pub invariant-loop-first : goal.invariant-loop-first
+invariant-loop-first g l = l.first ≤ 0x110000
 
-abbrev pub decreases-loop-at : goal.decreases-loop-at
-decreases-loop-at g l = 0x110000 - l.at
+abbrev pub decreases-loop-first : goal.decreases-loop-first
+decreases-loop-first g l = 0x110000 - l.first

@@ -23,4 +23,4 @@ pub returns-in_default : goal.returns-in_default
 returns-in_default c = end_width (sym c.longer.ensures ∙ c.in_default.is)
 
 pub returns : goal.returns
-returns c = char_width (sym c.longer.ensures ∙ c.in-Char.is)
+returns c = char_width (sym c.longer.ensures ∙ c.in-Some.is)

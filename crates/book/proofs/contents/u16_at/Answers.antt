@@ -1,22 +1,8 @@
--- Two bytes, each below 256, make a number below 65536. Assumes nothing.
-use Prim.Native.Nat.{◌+◌}
-use mathlib.Core.Path.{refl}
-use Rattle.book.specs.Contents.{u16_at}
+-- Two bytes, the lower first. Assumes nothing.
 use native.Mathlib.Omega.{arith}
+use Rattle.book.specs.Contents.{u16_at}
 use Rattle.book.proofs.contents.u16_at.Goals as goal
 
-pub overflow_cast-low : goal.overflow_cast-low
-overflow_cast-low c = omega (arith, c.shared_slice_known-1.given c.args.i)
-
-pub overflow_cast-high : goal.overflow_cast-high
-overflow_cast-high c = omega (arith, c.shared_slice_known-2-1.given (c.args.i + 1))
-
-pub overflow_mul-result : goal.overflow_mul-result
-overflow_mul-result c = omega (arith, c.shared_slice_known-1.given c.args.i, c.shared_slice_known-2-1.given (c.args.i + 1))
-
-pub overflow_add-result : goal.overflow_add-result
-overflow_add-result c = omega (arith, c.shared_slice_known-1.given c.args.i, c.shared_slice_known-2-1.given (c.args.i + 1))
-
-pub returns : goal.returns
+pub returns-clause-value : goal.returns-clause-value
 unfolding u16_at
-returns c = record { value = refl; upper_bound = omega (arith, c.shared_slice_known-1.given c.args.i, c.shared_slice_known-2-1.given (c.args.i + 1)) }
+returns-clause-value c = omega arith

@@ -4,9 +4,9 @@ use Rattle.c_answer.specs.Packed.{refusal_as_number}
 use Rattle.c_places.proofs.positions.Cases.{at_number, refused_number}
 use Rattle.c_places.proofs.positions.placed_as_number.Goals as goal
 
-pub returns-in-At : goal.returns-in-At
-returns-in-At c = rw c.in-At.is (c.pack.ensures ∙ at_number _)
+pub returns-in-Ok : goal.returns-in-Ok
+returns-in-Ok c = rw c.in-Ok.is (c.pack.ensures ∙ at_number _)
 
-pub returns-in-Refused : goal.returns-in-Refused
+pub returns-in-Err : goal.returns-in-Err
 unfolding refusal_as_number
-returns-in-Refused c = rw c.in-Refused.is (refused_number _)
+returns-in-Err c = rw c.in-Err.is (refused_number _)

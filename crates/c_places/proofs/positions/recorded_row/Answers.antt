@@ -4,10 +4,10 @@ use Rattle.token_ends.specs.Told.{told}
 use Rattle.c_answer.proofs.Examples.{worked}
 use Rattle.c_places.proofs.positions.recorded_row.Goals as goal
 
-pub returns-in-Ends : goal.returns-in-Ends
+pub returns-in-Ok : goal.returns-in-Ok
 unfolding told
-returns-in-Ends c = (rw (c.in-Ends.is, c.pack.ensures, c.pack-in-Ends.ensures), omega arith)
+returns-in-Ok c = (rw (c.in-Ok.is, c.pack.ensures, c.pack-in-Ok.ensures), omega arith)
 
-pub returns-in-Refused : goal.returns-in-Refused
+pub returns-in-Err : goal.returns-in-Err
 unfolding told
-returns-in-Refused c = (rw (c.in-Refused.is, worked.no_place), omega arith)
+returns-in-Err c = (rw (c.in-Err.is, worked.no_place), omega arith)

@@ -3,10 +3,10 @@ use native.Mathlib.Omega.{arith}
 use Rattle.comment.specs.Block.{told}
 use Rattle.c_scanners.proofs.comments.row_of.Goals as goal
 
-pub returns-in-Done : goal.returns-in-Done
+pub returns-in-Ok : goal.returns-in-Ok
 unfolding told
-returns-in-Done c = (rw (c.in-Done.is, c.pack.ensures), omega arith)
+returns-in-Ok c = (rw (c.in-Ok.is, c.pack.ensures), omega arith)
 
-pub returns-in-Refused : goal.returns-in-Refused
+pub returns-in-Err : goal.returns-in-Err
 unfolding told
-returns-in-Refused c = (rw (c.in-Refused.is, c.pack-in-Refused.ensures), omega arith)
+returns-in-Err c = (rw (c.in-Err.is, c.pack-in-Err.ensures), omega arith)

@@ -5,12 +5,12 @@ use Rattle.c_answer.proofs.Examples.{worked}
 use Rattle.c_scanners.specs.LiteralRow.{literal_row}
 use Rattle.c_scanners.proofs.literals.row_of.Goals as goal
 
-pub returns-in-Accepted : goal.returns-in-Accepted
+pub returns-in-Ok : goal.returns-in-Ok
 unfolding literal_row told
-returns-in-Accepted c =
-    (rw (c.in-Accepted.is, c.pack.ensures, c.pack-in-Accepted.ensures, worked.no_place), omega arith)
+returns-in-Ok c =
+    (rw (c.in-Ok.is, c.pack.ensures, c.pack-in-Ok.ensures, worked.no_place), omega arith)
 
-pub returns-in-Refused : goal.returns-in-Refused
+pub returns-in-Err : goal.returns-in-Err
 unfolding literal_row told
-returns-in-Refused c =
-    (rw (c.in-Refused.is, c.pack-in-Refused.ensures, c.pack-in-Refused-2.ensures, worked.no_place), omega arith)
+returns-in-Err c =
+    (rw (c.in-Err.is, c.pack-in-Err.ensures, c.pack-in-Err-2.ensures, worked.no_place), omega arith)

@@ -4,12 +4,12 @@ use Rattle.identifier.specs.Told.{told}
 use Rattle.c_answer.proofs.Examples.{worked}
 use Rattle.c_words.proofs.identifiers.row_of.Goals as goal
 
-pub returns-in-Found : goal.returns-in-Found
+pub returns-in-Ok : goal.returns-in-Ok
 unfolding told
-returns-in-Found c =
-    (rw (c.in-Found.is, c.pack.ensures, worked.no_place), omega arith)
+returns-in-Ok c =
+    (rw (c.in-Ok.is, c.pack.ensures, worked.no_place), omega arith)
 
-pub returns-in-Refused : goal.returns-in-Refused
+pub returns-in-Err : goal.returns-in-Err
 unfolding told
-returns-in-Refused c =
-    (rw (c.in-Refused.is, c.pack-in-Refused.ensures, c.pack-in-Refused-2.ensures), omega arith)
+returns-in-Err c =
+    (rw (c.in-Err.is, c.pack-in-Err.ensures, c.pack-in-Err-2.ensures), omega arith)

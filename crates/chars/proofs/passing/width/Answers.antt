@@ -1,4 +1,5 @@
 -- The character whose width was told, if it fits; at the end of the text every one does.
+use Rattle.std.specs.Prelude.{None}
 use Prim.Native.Nat.{ℕ, ◌+◌, ◌-◌, ◌≤◌, ◌<◌}
 use native.Mathlib.Omega.{arith}
 use mathlib.Core.List.{List, ◌∷◌}
@@ -6,7 +7,6 @@ use mathlib.Core.Path.{◌≡◌, refl, ap, ◌∙◌}
 use lib.ListN.{length, drop, get_or}
 use Rattle.utf8.specs.Table.{look, look_at}
 use Rattle.utf8.specs.Widths.{width_of}
-use Rattle.utf8.specs.declared.Look.TheVariants.{End}
 use Rattle.utf8.proofs.Laws.{at_width}
 use Rattle.utf8.proofs.Widths.{wide_char, wide_none, at_high}
 use Rattle.chars.specs.Stretch.{NextChar, High}
@@ -19,10 +19,10 @@ module _ (t : List ℕ) (at x stop : ℕ) (h : at < length t) (q : x ≡ get_or 
       record { code = k.0; found = k.1; fits = omega arith; is = at_high t at (omega arith) k.1 }
 
   -- none is there, if the stop is the end of the text
-  none_here : {w : ℕ} → w ≡ width_of (look (x ∷ drop (at + 1) t)) → w ≡ 0 → look_at t at ≡ End
+  none_here : {w : ℕ} → w ≡ width_of (look (x ∷ drop (at + 1) t)) → w ≡ 0 → look_at t at ≡ None
   none_here e z = wide_none t at h (e ∙ ap (λ (b : ℕ). width_of (look (b ∷ drop (at + 1) t))) q) z
 
-  no_room : {w : ℕ} → w ≡ width_of (look (x ∷ drop (at + 1) t)) → stop - at < w → stop ≡ length t → look_at t at ≡ End
+  no_room : {w : ℕ} → w ≡ width_of (look (x ∷ drop (at + 1) t)) → stop - at < w → stop ≡ length t → look_at t at ≡ None
   no_room {w} e r s =
       let k = wide_char t at h (e ∙ ap (λ (b : ℕ). width_of (look (b ∷ drop (at + 1) t))) q) (λ z. omega (arith, r, z)) in
       absurd (omega (arith, at_width t at k.1, r, s))

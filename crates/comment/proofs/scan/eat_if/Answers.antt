@@ -8,8 +8,8 @@ returns-in_default c = sym (none_there _ _ _ (sym c.eat_next_and_advance.ensures
 
 pub returns-then-d-c : goal.returns-then-d-c
 returns-then-d-c c =
-    sym (eaten _ _ _ (sym c.eat_next_and_advance.ensures ∙ c.in-Char.is) c.if-d-c.true)
+    sym (eaten _ _ _ (sym c.eat_next_and_advance.ensures ∙ c.in-Some.is) c.if-d-c.true)
 
 pub returns : goal.returns
 returns c =
-    sym (another _ _ _ (sym c.eat_next_and_advance.ensures ∙ c.in-Char.is) c.if-d-c.false)
+    sym (another _ _ _ (sym c.eat_next_and_advance.ensures ∙ c.in-Some.is) c.if-d-c.false)

@@ -1,4 +1,5 @@
 -- Each way out is one law of the turn; a pair that was eaten, and what is behind it, is told by `eat_if`.
+use Rattle.chars.specs.Takes.{char_taken}
 use Prim.Native.Nat.{ℕ, ◌≤◌, ◌<◌}
 use native.Mathlib.Omega.{arith}
 use mathlib.Core.List.{List}
@@ -6,14 +7,13 @@ use mathlib.Core.Path.{◌≡◌, sym, ◌∙◌}
 use lib.ListN.{length}
 use Rattle.chars.specs.Cursors.{eat_next_of}
 use Rattle.chars.specs.declared.cursor.Cursor.{Cursor}
-use Rattle.chars.specs.declared.cursor.Taken.TheVariants.{Char}
 use Rattle.comment.specs.Step.{eat_if_of, LevelFits}
 use Rattle.comment.proofs.scan.Turns.{further_on, still_fine, twice_on, ends, slash, opens, star, closes_last, closes, new_line, plain}
 use Rattle.comment.proofs.scan.turn.Goals as goal
-use Rattle.comment.proofs.scan.turn.Goals.{In-Char, In-Char-eat_if, In-Char-eat_if-2}
+use Rattle.comment.proofs.scan.turn.Goals.{In-Some, In-Some-eat_if, In-Some-eat_if-2}
 
 -- the character that was taken
-module _ (k : In-Char) where
+module _ (k : In-Some) where
   abbrev text : List ℕ
   text = k.args.text.now
 
@@ -21,10 +21,10 @@ module _ (k : In-Char) where
   from = k.args.from
 
   abbrev next : Cursor
-  next = k.in-Char.next
+  next = k.in-Some.next
 
-  ate : eat_next_of text from ≡ Char k.in-Char.c next
-  ate = sym k.eat_next_and_advance.ensures ∙ k.in-Char.is
+  ate : eat_next_of text from ≡ char_taken k.in-Some.c next
+  ate = sym k.eat_next_and_advance.ensures ∙ k.in-Some.is
 
   moved : (from.at < next.at) × (next.at ≤ length text)
   moved = further_on text from ate
@@ -34,35 +34,35 @@ module _ (k : In-Char) where
   fine = k.requires
 
 -- the pair that was eaten: it opens
-module _ (k : In-Char-eat_if) where
-  opened : eat_if_of k.args.text.now k.in-Char.next 0x2A ≡ Char k.in-Char-eat_if.field-0 k.in-Char-eat_if.after
-  opened = sym k.eat_if.ensures ∙ k.in-Char-eat_if.is
+module _ (k : In-Some-eat_if) where
+  opened : eat_if_of k.args.text.now k.in-Some.next 0x2A ≡ char_taken k.in-Some-eat_if.field-0-0 k.in-Some-eat_if.after
+  opened = sym k.eat_if.ensures ∙ k.in-Some-eat_if.is
 
 -- or it closes
-module _ (k : In-Char-eat_if-2) where
-  closed : eat_if_of k.args.text.now k.in-Char.next 0x2F ≡ Char k.in-Char-eat_if-2.field-0 k.in-Char-eat_if-2.after
-  closed = sym k.eat_if-then-c-eq-STAR.ensures ∙ k.in-Char-eat_if-2.is
+module _ (k : In-Some-eat_if-2) where
+  closed : eat_if_of k.args.text.now k.in-Some.next 0x2F ≡ char_taken k.in-Some-eat_if-2.field-0-0 k.in-Some-eat_if-2.after
+  closed = sym k.eat_if-then-c-eq-STAR.ensures ∙ k.in-Some-eat_if-2.is
 
 pub returns-in_default : goal.returns-in_default
 returns-in_default c = record { value = ends _ _ _ (sym c.eat_next_and_advance.ensures ∙ c.in_default.is); turn_fits = tt }
 
 pub returns-in_default-eat_if : goal.returns-in_default-eat_if
-returns-in_default-eat_if c = record { value = slash _ _ _ (ate (goal.at.returns-in_default-eat_if c).In-Char) c.if-c-eq-SLASH.true (sym c.eat_if.ensures ∙ c.in_default-eat_if.is); turn_fits = still_fine _ _ _ (fine (goal.at.returns-in_default-eat_if c).In-Char) (moved (goal.at.returns-in_default-eat_if c).In-Char) (fine (goal.at.returns-in_default-eat_if c).In-Char).low (omega arith) }
+returns-in_default-eat_if c = record { value = slash _ _ _ (ate (goal.at.returns-in_default-eat_if c).In-Some) c.if-c-eq-SLASH.true (sym c.eat_if.ensures ∙ c.in_default-eat_if.is); turn_fits = still_fine _ _ _ (fine (goal.at.returns-in_default-eat_if c).In-Some) (moved (goal.at.returns-in_default-eat_if c).In-Some) (fine (goal.at.returns-in_default-eat_if c).In-Some).low (omega arith) }
 
 pub returns-then-c-eq-SLASH : goal.returns-then-c-eq-SLASH
-returns-then-c-eq-SLASH c = record { value = opens _ _ _ (ate (goal.at.returns-then-c-eq-SLASH c).In-Char) c.if-c-eq-SLASH.true (opened c); turn_fits = still_fine _ _ _ (fine (goal.at.returns-then-c-eq-SLASH c).In-Char) (twice_on _ _ _ 0x2A (moved (goal.at.returns-then-c-eq-SLASH c).In-Char) (opened c)) (omega arith) (omega arith) }
+returns-then-c-eq-SLASH c = record { value = opens _ _ _ (ate (goal.at.returns-then-c-eq-SLASH c).In-Some) c.if-c-eq-SLASH.true (opened c); turn_fits = still_fine _ _ _ (fine (goal.at.returns-then-c-eq-SLASH c).In-Some) (twice_on _ _ _ 0x2A (moved (goal.at.returns-then-c-eq-SLASH c).In-Some) (opened c)) (omega arith) (omega arith) }
 
 pub returns-in_default-eat_if-2 : goal.returns-in_default-eat_if-2
-returns-in_default-eat_if-2 c = record { value = star _ _ _ (ate (goal.at.returns-in_default-eat_if-2 c).In-Char) c.if-c-eq-STAR.true (sym c.eat_if-then-c-eq-STAR.ensures ∙ c.in_default-eat_if-2.is); turn_fits = still_fine _ _ _ (fine (goal.at.returns-in_default-eat_if-2 c).In-Char) (moved (goal.at.returns-in_default-eat_if-2 c).In-Char) (fine (goal.at.returns-in_default-eat_if-2 c).In-Char).low (omega arith) }
+returns-in_default-eat_if-2 c = record { value = star _ _ _ (ate (goal.at.returns-in_default-eat_if-2 c).In-Some) c.if-c-eq-STAR.true (sym c.eat_if-then-c-eq-STAR.ensures ∙ c.in_default-eat_if-2.is); turn_fits = still_fine _ _ _ (fine (goal.at.returns-in_default-eat_if-2 c).In-Some) (moved (goal.at.returns-in_default-eat_if-2 c).In-Some) (fine (goal.at.returns-in_default-eat_if-2 c).In-Some).low (omega arith) }
 
 pub returns-then-level-eq1 : goal.returns-then-level-eq1
-returns-then-level-eq1 c = record { value = closes_last _ _ _ (ate (goal.at.returns-then-level-eq1 c).In-Char) c.if-c-eq-STAR.true (closed (goal.at.returns-then-level-eq1 c).In-Char-eat_if-2) c.if-level-eq1.true; turn_fits = tt }
+returns-then-level-eq1 c = record { value = closes_last _ _ _ (ate (goal.at.returns-then-level-eq1 c).In-Some) c.if-c-eq-STAR.true (closed (goal.at.returns-then-level-eq1 c).In-Some-eat_if-2) c.if-level-eq1.true; turn_fits = tt }
 
 pub returns-then-c-eq-STAR : goal.returns-then-c-eq-STAR
-returns-then-c-eq-STAR c = record { value = closes _ _ _ (ate (goal.at.returns-then-c-eq-STAR c).In-Char) c.if-c-eq-STAR.true (closed (goal.at.returns-then-c-eq-STAR c).In-Char-eat_if-2) c.if-level-eq1.false; turn_fits = still_fine _ _ _ (fine (goal.at.returns-then-c-eq-STAR c).In-Char) (twice_on _ _ _ 0x2F (moved (goal.at.returns-then-c-eq-STAR c).In-Char) (closed (goal.at.returns-then-c-eq-STAR c).In-Char-eat_if-2)) (omega (arith, fine (goal.at.returns-then-c-eq-STAR c).In-Char, c.if-level-eq1.false)) (omega arith) }
+returns-then-c-eq-STAR c = record { value = closes _ _ _ (ate (goal.at.returns-then-c-eq-STAR c).In-Some) c.if-c-eq-STAR.true (closed (goal.at.returns-then-c-eq-STAR c).In-Some-eat_if-2) c.if-level-eq1.false; turn_fits = still_fine _ _ _ (fine (goal.at.returns-then-c-eq-STAR c).In-Some) (twice_on _ _ _ 0x2F (moved (goal.at.returns-then-c-eq-STAR c).In-Some) (closed (goal.at.returns-then-c-eq-STAR c).In-Some-eat_if-2)) (omega (arith, fine (goal.at.returns-then-c-eq-STAR c).In-Some, c.if-level-eq1.false)) (omega arith) }
 
 pub returns-then-c-eq-LF : goal.returns-then-c-eq-LF
-returns-then-c-eq-LF c = record { value = rw c.lined-place.ensures (new_line _ _ _ (ate (goal.at.returns-then-c-eq-LF c).In-Char) c.if-c-eq-LF.true); turn_fits = still_fine _ _ _ (fine (goal.at.returns-then-c-eq-LF c).In-Char) (moved (goal.at.returns-then-c-eq-LF c).In-Char) (fine (goal.at.returns-then-c-eq-LF c).In-Char).low (omega arith) }
+returns-then-c-eq-LF c = record { value = rw c.lined-place.ensures (new_line _ _ _ (ate (goal.at.returns-then-c-eq-LF c).In-Some) c.if-c-eq-LF.true); turn_fits = still_fine _ _ _ (fine (goal.at.returns-then-c-eq-LF c).In-Some) (moved (goal.at.returns-then-c-eq-LF c).In-Some) (fine (goal.at.returns-then-c-eq-LF c).In-Some).low (omega arith) }
 
 pub returns : goal.returns
-returns c = record { value = plain _ _ _ (ate (goal.at.returns c).In-Char) c.if-c-eq-SLASH.false c.if-c-eq-STAR.false c.if-c-eq-LF.false; turn_fits = still_fine _ _ _ (fine (goal.at.returns c).In-Char) (moved (goal.at.returns c).In-Char) (fine (goal.at.returns c).In-Char).low (omega arith) }
+returns c = record { value = plain _ _ _ (ate (goal.at.returns c).In-Some) c.if-c-eq-SLASH.false c.if-c-eq-STAR.false c.if-c-eq-LF.false; turn_fits = still_fine _ _ _ (fine (goal.at.returns c).In-Some) (moved (goal.at.returns c).In-Some) (fine (goal.at.returns c).In-Some).low (omega arith) }

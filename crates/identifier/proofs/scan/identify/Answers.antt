@@ -1,4 +1,5 @@
 -- The first character is taken whichever it is; what goes on behind it is passed; what stands between is classified.
+use Rattle.chars.specs.Takes.{char_taken}
 use Prim.Native.Nat.{ℕ, ◌≤◌}
 use native.Mathlib.Omega.{arith}
 use mathlib.Core.List.{List}
@@ -6,7 +7,6 @@ use mathlib.Core.Path.{◌≡◌, sym, ap, ◌∙◌}
 use lib.ListN.{length}
 use Rattle.chars.specs.Cursors.{get_next_of}
 use Rattle.chars.specs.declared.cursor.Cursor.{Cursor}
-use Rattle.chars.specs.declared.cursor.Taken.TheVariants as taken
 use Rattle.identifier.specs.Identifiers.{identified_as, spanned, identify_of, class_of, text_between}
 use Rattle.identifier.proofs.scan.Answers.{nothing_there, begins_here, first_within}
 use Rattle.identifier.proofs.scan.identify.Goals as goal
@@ -24,10 +24,10 @@ module _ (k : After-end_of-end) where
   start = k.args.start
 
   abbrev first : Cursor
-  first = k.in-Char.first
+  first = k.in-Some.first
 
-  got : get_next_of text start ≡ taken.Char k.in-Char.field-0 first
-  got = sym k.get_next.ensures ∙ k.in-Char.is
+  got : get_next_of text start ≡ char_taken k.in-Some.field-0-0 first
+  got = sym k.get_next.ensures ∙ k.in-Some.is
 
   abbrev end : Cursor
   end = k.end_of-end.result
@@ -66,4 +66,4 @@ returns-in_default-class_of c =
 pub returns : goal.returns
 unfolding identified_as
 returns c =
-    sym (whole (goal.at.returns c).After-end_of-end ∙ ap (identified_as c.args.start c.end_of-end.result) (sym c.class_of.ensures ∙ c.in-Is.is))
+    sym (whole (goal.at.returns c).After-end_of-end ∙ ap (identified_as c.args.start c.end_of-end.result) (sym c.class_of.ensures ∙ c.in-Some-class_of.is))

@@ -26,11 +26,11 @@ on-run : OnRun tests is_standard_symbol [] runs
 unfolding is_standard_symbol standard_symbols among_tokens
 on-run = run_is tests is_standard_symbol [] runs tt
 
-pub returns-in-51-to-62 : goal.returns-in-51-to-62
-returns-in-51-to-62 c = search (on-run 7)
+pub returns-in-6-to-11-4 : goal.returns-in-6-to-11-4
+returns-in-6-to-11-4 c = search (on-run 7)
 
-pub returns-in-51-to-62-2 : goal.returns-in-51-to-62-2
-returns-in-51-to-62-2 c = search (on-run 9)
+pub returns-in-6-to-11-5 : goal.returns-in-6-to-11-5
+returns-in-6-to-11-5 c = search (on-run 9)
 
 pub returns-in-6-to-11 : goal.returns-in-6-to-11
 returns-in-6-to-11 c = search (on-run 1)

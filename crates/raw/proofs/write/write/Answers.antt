@@ -5,12 +5,12 @@ use lib.ListN.{length}
 use Rattle.raw.specs.Raw.{as_source}
 use Rattle.raw.proofs.write.Parts.{nothing_to_write, reaches, written}
 use Rattle.raw.proofs.write.write.Goals as goal
-use Rattle.raw.proofs.write.write.Goals.{In-At}
+use Rattle.raw.proofs.write.write.Goals.{In-Ok}
 
 -- the body that was found
-module _ (k : In-At) where
-  within : k.in-At.from.at + k.args.len ≤ length k.args.text.now
-  within = reaches as_source _ _ _ k.«open».ensures k.in-At.is k.requires.1 k.requires.0
+module _ (k : In-Ok) where
+  within : k.in-Ok.from.at + k.args.len ≤ length k.args.text.now
+  within = reaches as_source _ _ _ k.«open».ensures k.in-Ok.is k.requires.1 k.requires.0
 
 pub returns-in_default : goal.returns-in_default
 returns-in_default c = nothing_to_write as_source _ _ _ c.«open».ensures c.in_default.is _
@@ -26,4 +26,4 @@ slice_bounds-copy-end c = within c
 
 pub returns : goal.returns
 returns c =
-    written as_source _ _ _ c.«open».ensures c.in-At.is c.requires.1 _ c.requires.2 c.copy.ensures.out_after
+    written as_source _ _ _ c.«open».ensures c.in-Ok.is c.requires.1 _ c.requires.2 c.copy.ensures.out_after

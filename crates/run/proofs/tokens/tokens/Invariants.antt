@@ -5,16 +5,15 @@ use lib.ListN.{length}
 use Rattle.reading.specs.CutRun.{bounds}
 use Rattle.script.specs.Rules.{document01}
 use Rattle.script.specs.States.{begun}
-use Rattle.run.specs.Layouts.{entry_width, laid_by, memory_of}
 use Rattle.run.proofs.Finishes.{Running}
 use Rattle.run.proofs.tokens.tokens.Given as goal
 
 abbrev pub invariant-loop-to : goal.invariant-loop-to
-invariant-loop-to l =
-    Running (λ (n : ℕ). entry_width l.layout * n) (laid_by l.layout) document01 l.script l.book l.room.bounds (memory_of l.layout l.initial.numbers l.initial.bytes) l.initial.literals begun l.s l.room.listed l.room.used (memory_of l.layout l.numbers l.bytes) l.literals
-    × (l.room.bounds ≡ bounds l.limit (length l.initial.literals) (length (memory_of l.layout l.initial.numbers l.initial.bytes) / entry_width l.layout))
-    × (length l.numbers ≡ length l.initial.numbers)
-    × (length l.bytes ≡ length l.initial.bytes)
+invariant-loop-to g l =
+    let part = g.P.Part in
+    Running (λ (n : ℕ). part.WIDTH * n) part.laid document01 l.script l.book l.room.bounds (part.numbers l.initial.entries) l.initial.literals begun l.s l.room.listed l.room.used (part.numbers l.entries) l.literals
+    × (l.room.bounds ≡ bounds l.limit (length l.initial.literals) (length (part.numbers l.initial.entries) / part.WIDTH))
+    × (length l.entries ≡ length l.initial.entries)
 
 abbrev pub decreases-loop-to : goal.decreases-loop-to
-decreases-loop-to l = length l.script - l.s.cursor.at
+decreases-loop-to g l = length l.script - l.s.cursor.at

@@ -5,8 +5,8 @@ use Rattle.string.proofs.scan.answered.Goals as goal
 pub returns-then-is_over : goal.returns-then-is_over
 returns-then-is_over c = search over_limit
 
-pub returns-in-Good : goal.returns-in-Good
-returns-in-Good c = search accepted
+pub returns-in-Ok : goal.returns-in-Ok
+returns-in-Ok c = search accepted
 
-pub returns-in-Bad : goal.returns-in-Bad
-returns-in-Bad c = search refuses
+pub returns-in-Err : goal.returns-in-Err
+returns-in-Err c = search refuses

@@ -2,11 +2,12 @@
 use Prim.Native.Nat.{ℕ}
 use native.Mathlib.Omega.{arith}
 use mathlib.Core.List.{List}
-use mathlib.Core.Path.{refl}
+use mathlib.Core.Path.{refl, ap}
+use Rattle.literal.specs.Scans.{refused_with}
 use Rattle.string.specs.Standing.{Measured, WrittenSoFar}
 use Rattle.string.specs.declared.scan.ScanStand.{ScanStand}
 use Rattle.string.proofs.scan.Measuring.{measured_start, measured_over, measured_full, measured_less, measured_more}
-use Rattle.string.proofs.scan.Writing.{written_start, written_more, written_over, full_kept}
+use Rattle.string.proofs.scan.Writing.{written_start, written_more, written_over}
 use Rattle.string.proofs.scan.scan.Goals as goal
 use Rattle.string.proofs.scan.scan.Goals.{After-lead-stand}
 
@@ -30,11 +31,11 @@ loop-r-init c = (measured_start _ _ _ _ _ c.begun-s.ensures, written_start _ _ _
 pub lead-stand-requires : goal.lead-stand-requires
 lead-stand-requires c = c.loop-r.invariant.0.within
 
-pub shape_of-out-in-Over : goal.shape_of-out-in-Over
-shape_of-out-in-Over c = (wrote (goal.at.shape_of-out-in-Over c).After-lead-stand).same
+pub shape_of-out-in-Break : goal.shape_of-out-in-Break
+shape_of-out-in-Break c = (wrote (goal.at.shape_of-out-in-Break c).After-lead-stand).same
 
-pub returns-in-Over : goal.returns-in-Over
-returns-in-Over c = record { value = measured_over _ _ _ _ _ (stands (goal.at.returns-in-Over c).After-lead-stand) c.turn.ensures c.in-Over.is; body_kept = written_over _ _ _ _ _ _ _ _ (wrote (goal.at.returns-in-Over c).After-lead-stand) _ c.turn.ensures _ c.in-Over.is }
+pub returns-in-Break : goal.returns-in-Break
+returns-in-Break c = record { value = measured_over _ _ _ _ _ (stands (goal.at.returns-in-Break c).After-lead-stand) c.turn.ensures c.in-Break.is; body_kept = written_over _ _ _ _ _ _ _ _ (wrote (goal.at.returns-in-Break c).After-lead-stand) _ c.turn.ensures _ c.in-Break.is }
 
 pub overflow_sub-room : goal.overflow_sub-room
 overflow_sub-room c = (stands (goal.at.overflow_sub-room c).After-lead-stand).within
@@ -43,7 +44,7 @@ pub shape_of-out-then-room-n : goal.shape_of-out-then-room-n
 shape_of-out-then-room-n c = (wrote (goal.at.shape_of-out-then-room-n c).After-lead-stand).same
 
 pub returns-then-room-n : goal.returns-then-room-n
-returns-then-room-n c = record { value = measured_full _ _ _ _ _ (stands (goal.at.returns-then-room-n c).After-lead-stand) c.turn.ensures c.in-On.is c.size-m.ensures c.if-room-n.true c.as_given.ensures; body_kept = full_kept _ _ _ c.as_given.ensures }
+returns-then-room-n c = let refused = ap refused_with c.as_given.ensures in record { value = measured_full _ _ _ _ _ (stands (goal.at.returns-then-room-n c).After-lead-stand) c.turn.ensures c.in-Continue.is c.size-m.ensures c.if-room-n.true refused; body_kept = tt }
 
 pub overflow_add-n : goal.overflow_add-n
 overflow_add-n c =
@@ -51,10 +52,10 @@ overflow_add-n c =
 
 pub loop-r-smaller : goal.loop-r-smaller
 loop-r-smaller c =
-    omega (arith, measured_less _ _ _ _ _ (stands (goal.at.loop-r-smaller c).After-lead-stand) c.turn.ensures c.in-On.is, c.lead-stand.ensures.low)
+    omega (arith, measured_less _ _ _ _ _ (stands (goal.at.loop-r-smaller c).After-lead-stand) c.turn.ensures c.in-Continue.is, c.lead-stand.ensures.low)
 
 pub loop-r-preserved : goal.loop-r-preserved
 loop-r-preserved c = (
-  measured_more _ _ _ _ _ (stands (goal.at.loop-r-preserved c).After-lead-stand) c.turn.ensures c.in-On.is c.size-m.ensures c.if-room-n.false,
-  written_more _ _ _ _ _ _ _ _ (wrote (goal.at.loop-r-preserved c).After-lead-stand) _ c.turn.ensures c.in-On.is c.size-m.ensures c.put.ensures.out_after,
+  measured_more _ _ _ _ _ (stands (goal.at.loop-r-preserved c).After-lead-stand) c.turn.ensures c.in-Continue.is c.size-m.ensures c.if-room-n.false,
+  written_more _ _ _ _ _ _ _ _ (wrote (goal.at.loop-r-preserved c).After-lead-stand) _ c.turn.ensures c.in-Continue.is c.size-m.ensures c.put.ensures.out_after,
 )

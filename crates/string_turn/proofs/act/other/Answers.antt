@@ -2,8 +2,8 @@
 use Rattle.string_turn.proofs.act.Acts.{nothing_pending, escape_pending}
 use Rattle.string_turn.proofs.act.other.Goals as goal
 
-pub returns-in-Empty : goal.returns-in-Empty
-returns-in-Empty c = search nothing_pending
+pub returns-in-None : goal.returns-in-None
+returns-in-None c = search nothing_pending
 
-pub returns-in-Backslash : goal.returns-in-Backslash
-returns-in-Backslash c = search escape_pending
+pub returns-in-Some : goal.returns-in-Some
+returns-in-Some c = search escape_pending

@@ -9,4 +9,4 @@ returns-in_default c = rw (sym c.look_at.ensures ∙ c.in_default.is)
 
 pub returns : goal.returns
 unfolding next_is
-returns c = rw (sym c.look_at.ensures ∙ c.in-Char.is)
+returns c = rw (sym c.look_at.ensures ∙ c.in-Some.is)

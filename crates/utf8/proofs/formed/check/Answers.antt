@@ -1,11 +1,11 @@
 -- The loop goes from character to character, past ASCII by blocks: the text is well formed exactly if it is so from the offset reached on.
+use Rattle.utf8.specs.Looks.{char_found}
 use Prim.Native.Nat.{ℕ, ◌+◌, ◌≤◌}
 use native.Mathlib.Omega.{arith}
 use mathlib.Core.List.{List}
 use mathlib.Core.Path.{◌≡◌, sym, ◌∙◌}
 use lib.ListN.{length}
 use Rattle.utf8.specs.Table.{look_at}
-use Rattle.utf8.specs.declared.Look.TheVariants.{Char}
 use Rattle.utf8.proofs.Laws.{well_char, well_end, well_done, at_width}
 use Rattle.utf8.proofs.Widths.{wide_char, wide_none}
 use Rattle.utf8.proofs.formed.Blocks.{well_ascii}
@@ -21,7 +21,7 @@ module _ (c : After-width-w) where
   w = c.width-w.result
 
   module _ (n : w ≡ 0 → ⊥) where
-    found : (a : ℕ) × (look_at text c.loop-at.at ≡ Char a w)
+    found : (a : ℕ) × (look_at text c.loop-at.at ≡ char_found a w)
     found = wide_char text c.loop-at.at c.loop-at-test.true c.width-w.ensures n
 
     room : (1 ≤ w) × (c.loop-at.at + w ≤ length text) × (w ≤ 4)

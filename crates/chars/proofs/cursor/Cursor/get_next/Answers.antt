@@ -1,26 +1,26 @@
 -- A character found is taken; where none is found there is none to take.
+use Rattle.utf8.specs.Looks.{char_found}
 use Prim.Native.Nat.{ℕ}
 use native.Mathlib.Omega.{arith}
 use mathlib.Core.List.{List}
 use mathlib.Core.Path.{◌≡◌, sym, ◌∙◌}
 use Rattle.utf8.specs.Table.{look_at}
-use Rattle.utf8.specs.declared.Look.TheVariants.{Char}
 use Rattle.utf8.proofs.Laws.{at_width}
 use Rattle.chars.proofs.Cursors.{got, got_none}
 use Rattle.chars.specs.declared.cursor.Cursor.{Cursor}
 use Rattle.chars.proofs.cursor.Cursor.get_next.Goals as goal
-use Rattle.chars.proofs.cursor.Cursor.get_next.Goals.{In-Char}
+use Rattle.chars.proofs.cursor.Cursor.get_next.Goals.{In-Some}
 
 -- the character that the look found
-module _ (k : In-Char) where
+module _ (k : In-Some) where
   abbrev text : List ℕ
   text = k.args.text.now
 
   abbrev self : Cursor
   self = k.args.self
 
-  found : look_at text self.at ≡ Char k.in-Char.c k.in-Char.w
-  found = sym k.look_at.ensures ∙ k.in-Char.is
+  found : look_at text self.at ≡ char_found k.in-Some.c k.in-Some.w
+  found = sym k.look_at.ensures ∙ k.in-Some.is
 
 pub returns-in_default : goal.returns-in_default
 returns-in_default c = sym (got_none _ _ (sym c.look_at.ensures ∙ c.in_default.is))

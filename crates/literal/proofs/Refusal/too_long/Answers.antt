@@ -1,0 +1,5 @@
+-- The record, with the fault that was made.
+use Rattle.literal.proofs.Refusal.too_long.Goals as goal
+
+pub returns : goal.returns
+returns c = rw c.at.ensures

@@ -1,7 +1,0 @@
--- Past the end the definition reads 0 too.
-use lib.ListN.{get_or-eq_default}
-use mathlib.Core.Path.{sym}
-use Rattle.symbols.proofs.byte_at.Goals as goal
-
-pub returns : goal.returns
-returns c = sym (get_or-eq_default c.args.text.now 0 c.if-at-text.false)
