@@ -6,6 +6,7 @@ use mathlib.Core.Path.{◌≡◌, refl}
 use Rattle.basis.specs.Words.{word}
 use Rattle.book.specs.Order.{compared, below}
 use Rattle.book.specs.Contents.{u16_at, word_count, start_at, size_at, word_at, words_from, words, enough}
+use Rattle.lex_error.specs.Numbers.{told_number}
 use Rattle.book.specs.Book.{few, runs_on, ascii, sized, flagged, fit, all_fit, below_next, rising, good, check_of}
 
 -- what an example of a book computes with: to unfold this is to unfold all that its line names
@@ -36,7 +37,7 @@ two size offset more body = 2 ∷ 0 ∷ 0 ∷ 0 ∷ size ∷ 0 ∷ offset ∷ 0 
 abbrev pub goods : List (List ℕ)
 goods = empty ∷ house ∷ office ∷ one 10 3 (word "abcdefghij") ∷ one 1 0 (0x7F ∷ []) ∷ two 1 1 2 (word "aab") ∷ []
 
-pub good_books : map check_of goods ≡ 0 ∷ 0 ∷ 0 ∷ 0 ∷ 0 ∷ 0 ∷ []
+pub good_books : map (λ b. told_number (check_of b)) goods ≡ 0 ∷ 0 ∷ 0 ∷ 0 ∷ 0 ∷ 0 ∷ []
 unfolding book_computes
 good_books = refl
 
@@ -60,7 +61,7 @@ unfits = one 0 0 [] ∷ one 11 0 (word "abcdefghijk") ∷ one 1 4 (word "a") ∷
 abbrev pub unsorted : List (List ℕ)
 unsorted = two 1 1 1 (word "aa") ∷ two 1 1 1 (word "ba") ∷ two 2 2 1 (word "aba") ∷ []
 
-pub bad_books : map (map check_of) (shorts ∷ longs ∷ gaps ∷ unfits ∷ unsorted ∷ [])
+pub bad_books : map (map (λ b. told_number (check_of b))) (shorts ∷ longs ∷ gaps ∷ unfits ∷ unsorted ∷ [])
     ≡ (14 ∷ 14 ∷ 14 ∷ 14 ∷ []) ∷ (14 ∷ 14 ∷ []) ∷ (14 ∷ 14 ∷ 14 ∷ []) ∷ (14 ∷ 14 ∷ 14 ∷ 14 ∷ []) ∷ (14 ∷ 14 ∷ 14 ∷ []) ∷ []
 unfolding book_computes
 bad_books = refl

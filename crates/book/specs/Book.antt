@@ -1,7 +1,9 @@
 -- What makes a word book a good one (document 01, Word book).
-use Rattle.std.specs.Prelude.{ℕ, ◌+◌, Bool, true, List, [], ◌∷◌, leb, eqb, length}
+use Rattle.std.specs.Prelude.{◌+◌, Bool, true, List, [], ◌∷◌, leb, eqb, length, Err}
 use Rattle.basis.specs.Types.{Text, Bytes, Offset}
 use Rattle.basis.specs.Pick.{pick, both}
+use Rattle.lex_error.specs.declared.LexError.TheVariants.{BadBook}
+use Rattle.lex_error.specs.Numbers.{Asked, no_refusal}
 use Rattle.book.specs.Order.{below}
 use Rattle.book.specs.Contents.{BookWord, word_count, bodies, words, enough}
 
@@ -55,6 +57,6 @@ good book =
     (both (all_fit (words book))
     (rising (words book)))))
 
--- the book check: 0, or 14 for a bad word book
-unfoldable pub check_of : Bytes → ℕ
-check_of book = pick (good book) 0 14
+-- the book check: 14 for a bad word book
+unfoldable pub check_of : Bytes → Asked
+check_of book = pick (good book) no_refusal (Err BadBook)

@@ -9,7 +9,7 @@ ghost use Rattle.book.specs.Contents.{bodies, word_at, words};
 ghost use Rattle.book.specs.Book.{runs_on, fit, all_fit, rising, check_of};
 
 use crate::contents::Contents;
-use fault::Fault;
+use lex_error::LexError;
 
 // Whether each body starts where the one before it ends, and the last ends at the book's end.
 fn runs_on(contents: Contents) -> bool
@@ -49,16 +49,16 @@ fn is_rising(contents: Contents) -> bool
     (1..contents.words).all(|k| order::compare(contents.text(k - 1), contents.text(k)).is_lt())
 }
 
-// The book check: 0, or 14 for a bad word book.
-pub fn check(book: &[u8]) -> u8
+// The book check: a bad word book is refused.
+pub fn check(book: &[u8]) -> Result<(), LexError>
     ensures { result ≡ check_of book.now }
 {
     let Some(contents) = Contents::of(book) else {
-        return Fault::BAD_BOOK;
+        return Err(LexError::BadBook);
     };
     if contents.words <= 512 && runs_on(contents) && all_fit(contents) && is_rising(contents) {
-        0
+        Ok(())
     } else {
-        Fault::BAD_BOOK
+        Err(LexError::BadBook)
     }
 }

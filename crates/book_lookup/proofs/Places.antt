@@ -4,7 +4,7 @@ use native.Mathlib.Omega.{arith}
 use native.Mathlib.Nat.{zero-add}
 use mathlib.Core.Bool.{Bool, true, false}
 use mathlib.Core.List.{List, []}
-use mathlib.Core.Path.{◌≡◌, refl, ◌∙◌}
+use mathlib.Core.Path.{◌≡◌, refl, sym, ◌∙◌}
 use mathlib.Core.Logic.{◌⊎◌, ⊎_elim}
 use lib.Dec.{eqb}
 use lib.ListN.{length}
@@ -18,7 +18,9 @@ use Rattle.book.specs.Book.{runs_on, good, check_of}
 use Rattle.book_lookup.specs.Lookup.{in_house, in_office, hit_answer, flags_answer, reserved_of, either_book, holder_of, held_part, held_place, found_part, found_place}
 use Rattle.book_lookup.specs.Seek.{sought_of}
 use Rattle.book_lookup.specs.Halving.{sought_hit, halved_of}
-use Rattle.std.specs.Prelude.{Option, None, Some}
+use Rattle.std.specs.Prelude.{Option, None, Some, Ok, Err}
+use Rattle.std.specs.Result.{result_ok}
+use Rattle.lex_error.specs.Numbers.{Asked, no_refusal}
 use Rattle.std.specs.Option.{is_some, option_map}
 use Rattle.book_lookup.specs.declared.Reserved.{Reserved}
 use Rattle.book.proofs.Checks.{check_good, check_bad}
@@ -40,19 +42,36 @@ module _ (book w : List ℕ) where
     says_flags k n r p q a = rw (← e, p, ← q, a)
 
 -- the answer of a book that is checked
-module _ (book w : List ℕ) (n : ℕ) (e : n ≡ check_of book) where
-  pub bad_says_nothing : (n ≡ 0 → ⊥) → None ≡ reserved_of book w
+module _ (book w : List ℕ) (a : Asked) (e : a ≡ check_of book) (o : Option (Unit {0})) (d : o ≡ result_ok a) where
+  bad_book : o ≡ None → good book ≡ false
+  bad_book p = by a e d
+    where
+      by : (x : Asked) → x ≡ check_of book → o ≡ result_ok x → good book ≡ false
+      by (Ok u) f g = let q : ◌≡◌ {A = Option (Unit {0})} None (Some u) = sym p ∙ g in cc
+      by (Err r) f g = check_bad book f
+
+  good_book : {u : Unit {0}} → o ≡ Some u → good book ≡ true
+  good_book {u} p = by a e d
+    where
+      by : (x : Asked) → x ≡ check_of book → o ≡ result_ok x → good book ≡ true
+      by (Ok tt) f g = check_good book no_refusal f refl
+      by (Err r) f g = let q : ◌≡◌ {A = Option (Unit {0})} (Some u) None = sym p ∙ g in cc
+
+  pub bad_says_nothing : o ≡ None → None ≡ reserved_of book w
   unfolding reserved_of
-  bad_says_nothing p = rw (check_bad book n e p)
+  bad_says_nothing p = rw (bad_book p)
 
-  pub good_says : (r : Option Reserved) → n ≡ 0 → r ≡ halved_of book w → r ≡ reserved_of book w
-  good_says r p q = q ∙ halved book (check_good book n e p) w
+  pub good_says : {u : Unit {0}} (r : Option Reserved) → o ≡ Some u → r ≡ halved_of book w → r ≡ reserved_of book w
+  good_says r p q = q ∙ halved book (good_book p) w
 
--- a good book has contents
-module _ (book : List ℕ) {A : Type 0} (f : A → ℕ) (o : Option A) (e : option_map f o ≡ rows_of book) (n : ℕ) (d : n ≡ check_of book) where
-  pub good_has : n ≡ 0 → is_some o ≡ good book
+-- a good book has contents, and a bad one is asked for none
+module _ (book : List ℕ) (a : Asked) (d : a ≡ check_of book) (q : Option (Unit {0})) (h : q ≡ result_ok a) where
+  pub bad_has : q ≡ None → false ≡ good book
+  bad_has p = sym (bad_book book [] a d q h p)
+
+  pub good_has : {u : Unit {0}} {A : Type 0} (f : A → ℕ) (o : Option A) → option_map f o ≡ rows_of book → q ≡ Some u → is_some o ≡ good book
   unfolding rows_of
-  good_has p = let g = check_good book n d p in rw g (go o (rw (good_enough book g) at e))
+  good_has {A} f o e p = let g = good_book book [] a d q h p in rw g (go o (rw (good_enough book g) at e))
     where
       go : (x : Option A) → option_map f x ≡ Some (word_count book) → is_some x ≡ true
       go None q = cc

@@ -40,8 +40,6 @@ pub fn lookup_in(book: &[u8], word: &[u8]) -> Option<Reserved>
 pub fn lookup(book: &[u8], word: &[u8]) -> Option<Reserved>
     ensures { result ≡ reserved_of book.now word.now }
 {
-    if book::check(book) != 0 {
-        return None;
-    }
+    book::check(book).ok()?;
     lookup_in(book, word)
 }

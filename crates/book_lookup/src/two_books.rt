@@ -12,9 +12,7 @@ fn good_contents<'a>(book: &'a [u8]) -> Option<Contents<'a>>
     ensures good { is_some result ≡ good book.now }
     ensures book { IfSome result (λ c. c.book ≡ book.entry) }
 {
-    if book::check(book) != 0 {
-        return None;
-    }
+    book::check(book).ok()?;
     Contents::of(book)
 }
 

@@ -1,4 +1,5 @@
 -- Worked examples of the definitions, under one theorem. Assumes nothing.
+use Rattle.lex_error.specs.declared.LexError.TheVariants.{NoLiteralRoom}
 use Rattle.std.specs.Prelude.{Err, Ok}
 use mathlib.Core.Path.{◌≡◌, refl}
 use Rattle.position.specs.Place.{none, start, given, line_number, column_number}
@@ -9,7 +10,7 @@ pub record Worked : Type 0 where
   pub a_start : packed start ≡ 65536
   pub a_place : packed (given 3 7) ≡ 196615
   pub a_length : written_as_number (Ok 4) ≡ 4
-  pub no_room : written_as_number (Err 9) ≡ 38654705664
+  pub no_room : written_as_number (Err NoLiteralRoom) ≡ 38654705664
 
 pub worked : Worked
 unfolding none start given line_number column_number packed refusal_as_number written_as_number

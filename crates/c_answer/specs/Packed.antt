@@ -1,4 +1,5 @@
 -- Answers as numbers, for the C names: a place or a length in the lower 32 bits, and the number of a refusal above them.
+use Rattle.lex_error.specs.Numbers.{number_of}
 use Rattle.std.specs.Prelude.{ℕ, ◌+◌, ◌*◌, Err, Ok}
 use Rattle.position.specs.Place.{line_number, column_number}
 use Rattle.position.specs.declared.Position.{Position}
@@ -15,4 +16,4 @@ refusal_as_number n = n * 4294967296
 -- the length written, or the refusal
 unfoldable pub written_as_number : Written → ℕ
 written_as_number (Ok n) = n
-written_as_number (Err n) = refusal_as_number n
+written_as_number (Err e) = refusal_as_number (number_of e)

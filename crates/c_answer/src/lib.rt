@@ -25,7 +25,7 @@ pub fn written_as_number(w: Written) -> u64
 {
     match w {
         Ok(n) => n as u64,
-        Err(k) => k as u64 * 4294967296,
+        Err(error) => u64::from(error.number()) * 4294967296,
     }
 }
 

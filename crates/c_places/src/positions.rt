@@ -18,7 +18,7 @@ fn placed_as_number(a: Placed) -> u64
 {
     match a {
         Ok(p) => c_answer::pack(p),
-        Err(n) => n as u64 * 4294967296,
+        Err(error) => u64::from(error.number()) * 4294967296,
     }
 }
 
@@ -69,8 +69,8 @@ fn recorded_row(recorded: Recorded) -> [u64; 3]
         Ok(ends) => {
             return [0, c_answer::pack(ends.last), c_answer::pack(ends.previous)];
         }
-        Err(number) => {
-            return [number as u64, 0, 0];
+        Err(error) => {
+            return [u64::from(error.number()), 0, 0];
         }
     }
 }

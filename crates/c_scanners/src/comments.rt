@@ -27,7 +27,7 @@ fn row_of(level: usize, start: Cursor, scanned: Commented) -> [u64; 4]
         }
         Err(fault) => {
             return [
-                fault.number as u64,
+                u64::from(fault.error.number()),
                 level as u64,
                 start.at as u64,
                 c_answer::pack(start.place),

@@ -6,6 +6,10 @@ ghost use Rattle.c_answer.specs.Short.{short_row_number};
 ghost use Rattle.c_scanners.specs.LiteralRow.{literal_row};
 
 use literal::Scanned;
+use position::Position;
+
+// The number of a scan that is accepted.
+const ACCEPTED: u64 = 0;
 
 // The number comes first: it is small, so that a caller can cast it.
 fn row_of(s: Scanned) -> [u64; 11]
@@ -15,7 +19,7 @@ fn row_of(s: Scanned) -> [u64; 11]
         Ok((end, len)) => {
             let cursor = end.cursor;
             return [
-                0,
+                ACCEPTED,
                 cursor.at as u64,
                 c_answer::pack(cursor.place),
                 c_answer::pack(end.first),
@@ -23,7 +27,7 @@ fn row_of(s: Scanned) -> [u64; 11]
                 end.on_record.times as u64,
                 len as u64,
                 end.interpolated as u64,
-                0,
+                c_answer::pack(Position::NONE),
                 0,
                 0,
             ];
@@ -32,7 +36,7 @@ fn row_of(s: Scanned) -> [u64; 11]
             let fault = refusal.fault;
             let cursor = refusal.cursor;
             return [
-                fault.number as u64,
+                u64::from(fault.error.number()),
                 cursor.at as u64,
                 c_answer::pack(cursor.place),
                 0,
@@ -54,7 +58,7 @@ pub(crate) fn short_number(s: Scanned) -> u32
 {
     match s {
         Ok(_) => c_answer::short_number(0),
-        Err(refusal) => c_answer::short_number(refusal.fault.number as u64),
+        Err(refusal) => c_answer::short_number(u64::from(refusal.fault.error.number())),
     }
 }
 

@@ -17,7 +17,7 @@ fn row_of(scanned: Identified) -> [u64; 8]
             let cursor = word.cursor;
             return [
                 0,
-                word.kind as u64,
+                u64::from(word.kind.number()),
                 word.token as u64,
                 cursor.at as u64,
                 c_answer::pack(cursor.place),
@@ -29,7 +29,7 @@ fn row_of(scanned: Identified) -> [u64; 8]
         Err((fault, cursor)) => {
             let part = fault.part;
             return [
-                fault.number as u64,
+                u64::from(fault.error.number()),
                 0,
                 0,
                 cursor.at as u64,

@@ -7,7 +7,6 @@ ghost use Rattle.c_answer.specs.Packed.{written_as_number};
 ghost use Rattle.c_words.specs.TokenNumbers.{lookup_as_number};
 ghost use Rattle.syntax.specs.Syntax.{literal_syntax_of};
 
-
 // A token, or none.
 pub(crate) fn lookup_as_number(l: Option<u8>) -> u64
     ensures { result ≡ lookup_as_number l }

@@ -19,11 +19,8 @@ impl Cursor {
     pub fn get_next(self, text: &[u8]) -> Taken
         ensures { result ≡ get_next_of text.now self }
     {
-        let at = self.at;
-        let place = self.place;
-        let Some((c, w)) = utf8::look_at(text, at) else {
-            return None;
-        };
+        let Cursor { at, place } = self;
+        let (c, w) = utf8::look_at(text, at)?;
         Some((c, Cursor { at: at + w, place }))
     }
 

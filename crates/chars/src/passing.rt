@@ -11,35 +11,18 @@ pub struct Passed {
 }
 
 // Whether a character is one of five.
+#[tactic(auto, unfolding(crate::specs::Stretch::among))]
 fn is_among(c: u32, a: u32, b: u32, d: u32, e: u32, f: u32) -> bool
     ensures { result ≡ among a b d e f c }
 {
-    if c == a {
-        return true;
-    }
-    if c == b {
-        return true;
-    }
-    if c == d {
-        return true;
-    }
-    if c == e {
-        return true;
-    }
-    c == f
+    [a, b, d, e, f].contains(&c)
 }
 
 // Where passing stops at the latest: `most` bytes on, or at the end of the text.
 fn last(len: usize, from: usize, most: usize) -> usize
     ensures { (from ≤ result) × (result ≤ from + most) × (from < result → result ≤ len) }
 {
-    if len <= from {
-        return from;
-    }
-    if most < len - from {
-        return from + most;
-    }
-    len
+    from + len.saturating_sub(from).min(most)
 }
 
 // The width of the character at an offset whose byte, x, is above 7F, if it ends by `stop`; else 0.
@@ -49,10 +32,7 @@ fn width(text: &[u8], at: usize, x: u32, stop: usize) -> usize
     ensures at_value { result ≡ 0 → stop ≡ length text.now → look_at text.now at ≡ None }
 {
     let w = utf8::width(text, at, x);
-    if stop - at < w {
-        return 0;
-    }
-    w
+    if w <= stop - at { w } else { 0 }
 }
 
 // Passes the characters above 7F that begin at an offset, up to `stop`; if there is none, and `stop` is the end of the text, then

@@ -22,15 +22,8 @@ fn word(text: &[u8], from: usize) -> Passed
     ensures { Ends Word text.now from result.count result.at }
 {
     let mut at = from;
-    while at < text.len() {
-        if classes::is_id_continue(text[at] as u32) {
-            at += 1;
-        } else {
-            return Passed {
-                at,
-                count: at - from,
-            };
-        }
+    while at < text.len() && classes::is_id_continue(text[at] as u32) {
+        at += 1;
     }
     Passed {
         at,
@@ -68,9 +61,10 @@ fn line(text: &[u8], from: usize) -> Passed
 fn behind(start: Cursor, passed: Passed) -> Cursor
     ensures { result ≡ cursor passed.at (advanced_by passed.count start.place) }
 {
-    let at = passed.at;
-    let place = start.place.advanced_by(passed.count);
-    Cursor { at, place }
+    Cursor {
+        at: passed.at,
+        place: start.place.advanced_by(passed.count),
+    }
 }
 
 // Behind every character that goes on.

@@ -1,4 +1,6 @@
 -- The block comment: document 01, "Level given; `/*` adds one, `*/` takes one, each pair eaten whole. At the end of input the open level is answered", and the Rust's `scan_block_comment`.
+use Rattle.lex_error.specs.declared.LexError.TheVariants.{BadArgument}
+use Rattle.lex_error.specs.Numbers.{Asked, no_refusal, asked_then, on_asked, number_of}
 use Rattle.std.specs.Prelude.{ℕ, ◌+◌, ◌-◌, List, [], ◌∷◌, eqb, Err, Ok}
 use Rattle.basis.specs.Types.{Text, Offset}
 use Rattle.basis.specs.Pick.{pick, both}
@@ -60,14 +62,14 @@ comment_rule = record { turn = comment_turn; end = comment_ended; note = λ n r.
 unfoldable pub comment_of : Text → Cursor → ℕ → Comment
 comment_of t start level = run_at comment_rule t start.at (inside level start.place)
 
--- what the arguments refuse: 2, 1, 3 at the door; 3 for a place on no line, and for a level outside 1..65,535; 0 for nothing
-unfoldable pub comment_refuses : Text → Offset → Position → ℕ → ℕ
-comment_refuses t at p level = pick (eqb (door_of t at) 0) (pick (both (on_line p) (within (1 ‥ 65535) level)) 0 3) (door_of t at)
+-- what the arguments refuse: 2, 1, 3 at the door; 3 for a place on no line, and for a level outside 1..65,535
+unfoldable pub comment_refuses : Text → Offset → Position → ℕ → Asked
+comment_refuses t at p level = asked_then (door_of t at) (pick (both (on_line p) (within (1 ‥ 65535) level)) no_refusal (Err BadArgument))
 
 -- the answer of a scan
 unfoldable pub scan_block_comment_of : Text → Offset → Position → ℕ → Commented
 scan_block_comment_of t at p level =
-    pick (eqb (comment_refuses t at p level) 0) (Ok (comment_of t (cursor at p) level)) (Err (fault (comment_refuses t at p level) p))
+    on_asked (comment_refuses t at p level) (Ok (comment_of t (cursor at p) level)) (λ e. Err (fault e p))
 
 -- what a scan tells: the refusal's number, 0 for none, and the place reported with it; the level still open; the offset and position reached
 pub record Told : Type 0 where
@@ -79,4 +81,4 @@ pub record Told : Type 0 where
 -- the values of each case of an answer; a refused scan tells the level, the offset and the position that it was given
 unfoldable pub told : ℕ → Cursor → Commented → Told
 told level start (Ok c) = record { number = 0; place = none; level = c.level; cursor = c.cursor }
-told level start (Err f) = record { number = f.number; place = f.place; level = level; cursor = start }
+told level start (Err f) = record { number = number_of f.error; place = f.place; level = level; cursor = start }

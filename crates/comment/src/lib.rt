@@ -10,35 +10,28 @@ ghost use Rattle.comment.specs.Block.{comment_refuses, scan_block_comment_of};
 use crate::scan::Commented;
 use chars::cursor::Cursor;
 use fault::Fault;
+use lex_error::LexError;
 use position::Position;
 
-// What the arguments of a scan refuse, by number; 0 for nothing.
-fn refuses(text: &[u8], at: usize, place: Position, level: usize) -> u8
+// What the arguments of a scan refuse.
+#[tactic(auto, unfolding(crate::specs::Block::comment_refuses))]
+fn refuses(text: &[u8], at: usize, place: Position, level: usize) -> Result<(), LexError>
     ensures { result ≡ comment_refuses text.now at place level }
 {
-    let number = door::door(text, at);
-    if number != 0 {
-        return number;
+    door::door(text, at)?;
+    if !place.is_on_line() || !(1..=65535).contains(&level) {
+        return Err(LexError::BadArgument);
     }
-    if place.is_on_line() {
-        if 1 <= level {
-            if level <= 65535 {
-                return 0;
-            }
-            return Fault::BAD_ARGUMENT;
-        }
-        return Fault::BAD_ARGUMENT;
-    }
-    Fault::BAD_ARGUMENT
+    Ok(())
 }
 
 // The scan of a comment from behind its opener, or from anywhere in it: `level` comments are open.
+#[tactic(auto, using(crate::proofs::Refusals::nothing_refused), unfolding(crate::specs::Block::scan_block_comment_of))]
 pub fn scan_block_comment(text: &[u8], at: usize, place: Position, level: usize) -> Commented
     ensures { result ≡ scan_block_comment_of text.now at place level }
 {
-    let number = refuses(text, at, place, level);
-    if number != 0 {
-        return Err(Fault::at(number, place));
+    match refuses(text, at, place, level) {
+        Ok(()) => Ok(scan::scan(text, Cursor { at, place }, level)),
+        Err(error) => Err(Fault::at(error, place)),
     }
-    Ok(scan::scan(text, Cursor { at, place }, level))
 }

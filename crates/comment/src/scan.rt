@@ -6,6 +6,7 @@ ghost use Rattle.comment.specs.Step.{eat_if_of, move_of, as_led, LevelFits, Turn
 use chars::cursor::{Cursor, Taken};
 use classes::marks::{LF, SLASH, STAR};
 use fault::Fault;
+use std::ops::ControlFlow;
 
 // The level that is still open, 0 where the comment is closed, and the cursor behind what was taken.
 #[derive(Clone, Copy)]
@@ -17,24 +18,14 @@ pub struct Comment {
 // A scan's answer: where it ended, or a refusal.
 pub type Commented = Result<Comment, Fault>;
 
-// One turn of the scan, with the level that is then open and the cursor: it goes on, or it is over.
-#[derive(Clone, Copy)]
-enum Led {
-    On(usize, Cursor),
-    Over(usize, Cursor),
-}
+// One turn of the scan: it goes on at a cursor, with so many levels open, or it is over.
+type Led = ControlFlow<Comment, (usize, Cursor)>;
 
 // Takes the next character if it is c, and one column.
 fn eat_if(text: &[u8], from: Cursor, c: u32) -> Taken
     ensures { result ≡ eat_if_of text.now from c }
 {
-    let Some((d, next)) = from.eat_next_and_advance(text) else {
-        return None;
-    };
-    if d == c {
-        return Some((d, next));
-    }
-    None
+    from.eat_next_and_advance(text).filter(|(d, _)| *d == c)
 }
 
 // Takes a character, or a pair whole.
@@ -44,29 +35,30 @@ fn turn(text: &[u8], level: usize, from: Cursor) -> Led
     ensures turn_fits { TurnFits (length text.now) from result }
 {
     let Some((c, next)) = from.eat_next_and_advance(text) else {
-        return Led::Over(level, from);
+        return ControlFlow::Break(Comment {
+            level,
+            cursor: from,
+        });
     };
-    if c == SLASH {
-        let Some((_, after)) = eat_if(text, next, STAR) else {
-            return Led::On(level, next);
-        };
-        return Led::On(level + 1, after);
-    }
-    if c == STAR {
-        let Some((_, after)) = eat_if(text, next, SLASH) else {
-            return Led::On(level, next);
-        };
-        if level == 1 {
-            return Led::Over(0, after);
+    match c {
+        SLASH => match eat_if(text, next, STAR) {
+            Some((_, after)) => ControlFlow::Continue((level + 1, after)),
+            None => ControlFlow::Continue((level, next)),
+        },
+        STAR => match eat_if(text, next, SLASH) {
+            Some((_, after)) if level == 1 => ControlFlow::Break(Comment {
+                level: 0,
+                cursor: after,
+            }),
+            Some((_, after)) => ControlFlow::Continue((level - 1, after)),
+            None => ControlFlow::Continue((level, next)),
+        },
+        LF => {
+            let place = next.place.lined();
+            ControlFlow::Continue((level, Cursor { place, ..next }))
         }
-        return Led::On(level - 1, after);
+        _ => ControlFlow::Continue((level, next)),
     }
-    if c == LF {
-        let at = next.at;
-        let place = next.place.lined();
-        return Led::On(level, Cursor { at, place });
-    }
-    Led::On(level, next)
 }
 
 // The scan of a text from a place, both found good, for a run.
@@ -82,18 +74,12 @@ pub fn scan(text: &[u8], start: Cursor, level: usize) -> Comment
             at: passed.at,
             place: cursor.place.advanced_by(passed.count),
         };
-        let step = turn(text, depth, cursor);
-        match step {
-            Led::On(n, next) => {
+        match turn(text, depth, cursor) {
+            ControlFlow::Continue((n, next)) => {
                 depth = n;
                 cursor = next;
             }
-            Led::Over(n, last) => {
-                return Comment {
-                    level: n,
-                    cursor: last,
-                };
-            }
+            ControlFlow::Break(comment) => return comment,
         }
     }
 }

@@ -6,31 +6,28 @@ pub mod run;
 ghost use Rattle.std.specs.Prelude.{◌≡◌};
 ghost use Rattle.door.specs.Door.{text_of, door_of};
 
-use fault::Fault;
+use lex_error::LexError;
 
-// What a text that is lent refuses, by number: 2 before 1; 0 for nothing.
-pub fn text(text: &[u8]) -> u8
+// What a text that is lent refuses: 2 before 1.
+pub fn text(text: &[u8]) -> Result<(), LexError>
     ensures { result ≡ text_of text.now }
 {
     if 16_777_216 < text.len() {
-        return Fault::TEXT_TOO_LONG;
+        return Err(LexError::TextTooLong);
     }
     if utf8::formed::check(text) {
-        return 0;
+        return Ok(());
     }
-    Fault::NOT_UTF8
+    Err(LexError::NotUtf8)
 }
 
-// What a text and an offset refuse, by number: 2 before 1 before 3; 0 for nothing.
-pub fn door(text: &[u8], at: usize) -> u8
+// What a text and an offset refuse: 2 before 1 before 3.
+pub fn door(text: &[u8], at: usize) -> Result<(), LexError>
     ensures { result ≡ door_of text.now at }
 {
-    let number = crate::text(text);
-    if number != 0 {
-        return number;
-    }
+    crate::text(text)?;
     if utf8::formed::is_boundary(text, at) {
-        return 0;
+        return Ok(());
     }
-    Fault::BAD_ARGUMENT
+    Err(LexError::BadArgument)
 }

@@ -1,1 +1,2 @@
+pub mod KindNumbers
 pub mod Layouts

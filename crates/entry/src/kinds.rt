@@ -1,25 +1,31 @@
-// The kinds of tokens: document 01, "Kinds".
-pub const NAME: u8 = 1;
+// The kinds of tokens.
+ghost use Rattle.std.specs.Prelude.{◌≡◌};
+ghost use Rattle.entry.specs.Kinds.{kind_number};
 
-// A keyword of letters.
-pub const KEYWORD: u8 = 2;
+// What a token is. Each stands for its number.
+#[derive(Clone, Copy, PartialEq, Eq, Debug)]
+pub enum Kind {
+    Name = 1,
+    // A keyword of letters.
+    Keyword = 2,
+    Symbol = 3,
+    Number = 4,
+    String = 5,
+    // A piece of text that `${` ends.
+    Interpolated = 6,
+    // A piece of text that its backtick ends.
+    Text = 7,
+    Raw = 8,
+    Char = 9,
+    Comment = 10,
+    Reserved = 11,
+}
 
-pub const SYMBOL: u8 = 3;
-
-pub const NUMBER: u8 = 4;
-
-pub const STRING: u8 = 5;
-
-// A piece of text that `${` ends.
-pub const INTERPOLATED: u8 = 6;
-
-// A piece of text that its backtick ends.
-pub const TEXT: u8 = 7;
-
-pub const RAW: u8 = 8;
-
-pub const CHAR: u8 = 9;
-
-pub const COMMENT: u8 = 10;
-
-pub const RESERVED: u8 = 11;
+impl Kind {
+    // The number that an entry has for it.
+    pub fn number(self) -> u8
+        ensures { result ≡ kind_number self }
+    {
+        self as u8
+    }
+}

@@ -3,12 +3,13 @@
 
 pub mod kinds;
 
+use crate::kinds::Kind;
 use position::Position;
 
 // A token's kind, its place, and where it stands and how long it is, in the script or, for a literal, in the packed literal bytes.
 #[derive(Clone, Copy)]
 pub struct Entry {
-    pub kind: u8,
+    pub kind: Kind,
     pub place: Position,
     pub at: usize,
     pub len: usize,

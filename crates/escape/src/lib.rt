@@ -92,9 +92,10 @@ fn number(text: &[u8], n: u32, here: Cursor) -> Escaped
     match hex_digits(text, n, here) {
         Ok((v, next)) => {
             if utf8::is_scalar(v) {
-                return Escaped::Char(v, next);
+                Escaped::Char(v, next)
+            } else {
+                Escaped::Malformed(next)
             }
-            Escaped::Malformed(next)
         }
         Err(next) => Escaped::Malformed(next),
     }
@@ -120,10 +121,7 @@ fn value_at(text: &[u8], from: usize, n: usize) -> u32
     requires { n ≤ 8 }
     ensures { (result ≡ no_char → ⊥) → DigitsAt text.now from n result }
 {
-    if text.len() < from {
-        return NOTHING;
-    }
-    if text.len() - from < n {
+    if text.len() < from || text.len() - from < n {
         return NOTHING;
     }
     let mut v: u32 = 0;
@@ -170,20 +168,11 @@ fn whole_of(text: &[u8], q: u32, at: usize, c: u32) -> WholeEscape
 pub fn whole_at(text: &[u8], q: u32, at: usize) -> WholeEscape
     ensures { WholeAt text.now q at result }
 {
-    if text.len() <= at {
-        return NONE;
-    }
-    if text[at] as u32 != BACKSLASH {
-        return NONE;
-    }
-    if text.len() - at < 2 {
+    if text.len() <= at || text[at] as u32 != BACKSLASH || text.len() - at < 2 {
         return NONE;
     }
     let c = text[at + 1] as u32;
-    if c < 0x20 {
-        return NONE;
-    }
-    if 0x80 <= c {
+    if c < 0x20 || 0x80 <= c {
         return NONE;
     }
     whole_of(text, q, at, c)

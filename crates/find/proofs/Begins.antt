@@ -1,18 +1,18 @@
 -- What begins at a place, for each way out of the functions. Assumes nothing.
-use Rattle.std.specs.Prelude.{None, Ok, Some}
-use Prim.Native.Nat.{ℕ, ◌+◌, ◌-◌, ◌≤◌, ◌<◌}
+use Rattle.std.specs.Prelude.{Option, None, Some}
+use Prim.Native.Nat.{ℕ, ◌+◌, ◌-◌, ◌≤◌}
 use native.Mathlib.Omega.{arith}
 use Prim.Native.Char.{code}
 use mathlib.Core.Bool.{Bool, true, false}
 use mathlib.Core.List.{List}
-use mathlib.Core.Path.{◌≡◌, refl, ◌∙◌}
+use mathlib.Core.Path.{◌≡◌, refl}
 use lib.Dec.{eqb}
 use lib.ListN.{length}
-use borrow.Author.Tests.{eq-eqb, ne_eqb, eqb-true}
+use borrow.Author.Tests.{eqb-true}
 use Rattle.basis.specs.Pick.{either}
 use Rattle.basis.proofs.Cases.{pick_cases}
 use Rattle.position.specs.declared.Position.{Position}
-use Rattle.position.specs.Place.{advanced, advanced_by, lined}
+use Rattle.position.specs.Place.{advanced, advanced_by}
 use Rattle.utf8.specs.Table.{◌‥◌, within, look_at}
 use Rattle.utf8.specs.Looks.{Look, char_found}
 use Rattle.utf8.proofs.Laws.{at_width}
@@ -24,39 +24,15 @@ use Rattle.chars.specs.Cursors.{cursor}
 use Rattle.chars.specs.declared.cursor.Cursor.{Cursor}
 use Rattle.chars.specs.Ends.{stretch_end}
 use Rattle.chars.specs.declared.stretch.Stretch.TheVariants as Stretch
-use Rattle.fault.specs.declared.Fault.{Fault}
-use Rattle.fault.specs.Faults.{part, unexpected_input, still_open}
+use Rattle.fault.specs.Faults.{part, unexpected_input}
 use Rattle.token.specs.Tokens as Token
 use Rattle.entry.specs.Kinds as Kind
 use Rattle.identifier.specs.Identifiers.{identify_of}
-use Rattle.identifier.specs.declared.scan.Word.{Word}
-use Rattle.identifier.specs.Answer.{Identified, refused_at}
 use Rattle.symbols.specs.Found.{Longest, symbol_as}
-use Rattle.comment.specs.Block.{comment_of}
-use Rattle.find.specs.Find.{opens_string, opens_char, opens_text, opens_raw, white_of, word_of, number_run, symbol_of, block_comment, code_of, slash_sign, hash_sign, sign_at, on_sign, mark_of, begins_word, begins_of, find_of}
+use Rattle.find.specs.Find.{white_of, word_of, number_run, symbol_of, code_of, is_code, slash_sign, hash_sign, sign_at, on_sign, mark_of, begins_word, begins_of, find_of}
 use Rattle.find.specs.declared.Sign.{Sign}
 use Rattle.find.specs.declared.Sign.TheVariants as sign
-use Rattle.find.specs.declared.Found.TheVariants.{White, Part, Wrong, End}
-
--- ---- white space
-module _ (c : ℕ) (to : Cursor) where
-  pub white_line : c ≡ 0x0A → white_of c to ≡ White (cursor to.at (lined to.place))
-  unfolding white_of
-  white_line q = rw (eq-eqb c 0x0A q)
-
-  pub white_other : (c ≡ 0x0A → ⊥) → white_of c to ≡ White to
-  unfolding white_of
-  white_other q = rw (ne_eqb c 0x0A q)
-
--- ---- words
-module _ {x : Identified} where
-  pub a_word : {w : Word} → x ≡ Ok w → word_of x ≡ Part w.cursor w.kind w.token
-  unfolding word_of
-  a_word q = rw q
-
-  pub no_word : {f : Fault} {e : Cursor} → x ≡ refused_at f e → word_of x ≡ Wrong f
-  unfolding word_of
-  no_word q = rw q
+use Rattle.find.specs.declared.Found.TheVariants.{Part, Wrong, End}
 
 -- ---- symbols
 module _ (at w : ℕ) (p : Position) {l : Longest} where
@@ -68,63 +44,6 @@ module _ (at w : ℕ) (p : Position) {l : Longest} where
   unfolding symbol_of
   no_symbol q = rw q
 
--- ---- comments
-module _ (t : List ℕ) (from : Cursor) where
-  pub block_closed : (comment_of t from 1).level ≡ 0 → block_comment t from ≡ Part (comment_of t from 1).cursor Kind.comment Token.Comment
-  unfolding block_comment
-  block_closed q = rw (eq-eqb _ 0 q)
-
-  pub block_open : ((comment_of t from 1).level ≡ 0 → ⊥) → block_comment t from ≡ Wrong (still_open (comment_of t from 1).cursor.place)
-  unfolding block_comment
-  block_open q = rw (ne_eqb _ 0 q)
-
--- ---- signs, by the character and the one behind it
-module _ (d : ℕ) where
-  pub hash_map : d ≡ 0x7B → hash_sign d ≡ sign.Symbol
-  unfolding hash_sign
-  hash_map q = rw (eq-eqb d 0x7B q)
-
-  pub hash_raw : (d ≡ 0x7B → ⊥) → hash_sign d ≡ sign.Literal opens_raw
-  unfolding hash_sign
-  hash_raw q = rw (ne_eqb d 0x7B q)
-
-  pub slash_line : d ≡ 0x2F → slash_sign d ≡ sign.Line
-  unfolding slash_sign
-  slash_line q = rw (eq-eqb d 0x2F q)
-
-  pub slash_block : d ≡ 0x2A → slash_sign d ≡ sign.Block
-  unfolding slash_sign
-  slash_block q = rw (ne_eqb d 0x2F (λ r. omega arith), eq-eqb d 0x2A q)
-
-  pub slash_symbol : (d ≡ 0x2F → ⊥) → (d ≡ 0x2A → ⊥) → slash_sign d ≡ sign.Symbol
-  unfolding slash_sign
-  slash_symbol m n = rw (ne_eqb d 0x2F m, ne_eqb d 0x2A n)
-
-module _ (t : List ℕ) (at c : ℕ) where
-  pub at_quote : c ≡ 0x22 → sign_at t at c ≡ sign.Literal opens_string
-  unfolding sign_at
-  at_quote q = rw (eq-eqb c 0x22 q)
-
-  pub at_apostrophe : c ≡ 0x27 → sign_at t at c ≡ sign.Literal opens_char
-  unfolding sign_at
-  at_apostrophe q = rw (ne_eqb c 0x22 (λ r. omega arith), eq-eqb c 0x27 q)
-
-  pub at_backtick : c ≡ 0x60 → sign_at t at c ≡ sign.Literal opens_text
-  unfolding sign_at
-  at_backtick q = rw (ne_eqb c 0x22 (λ r. omega arith), ne_eqb c 0x27 (λ r. omega arith), eq-eqb c 0x60 q)
-
-  pub at_hash : c ≡ 0x23 → sign_at t at c ≡ hash_sign (code_of (look_at t (at + 1)))
-  unfolding sign_at
-  at_hash q = rw (ne_eqb c 0x22 (λ r. omega arith), ne_eqb c 0x27 (λ r. omega arith), ne_eqb c 0x60 (λ r. omega arith), eq-eqb c 0x23 q)
-
-  pub at_slash : c ≡ 0x2F → sign_at t at c ≡ slash_sign (code_of (look_at t (at + 1)))
-  unfolding sign_at
-  at_slash q = rw (ne_eqb c 0x22 (λ r. omega arith), ne_eqb c 0x27 (λ r. omega arith), ne_eqb c 0x60 (λ r. omega arith), ne_eqb c 0x23 (λ r. omega arith), eq-eqb c 0x2F q)
-
-  pub at_symbol : (c ≡ 0x22 → ⊥) → (c ≡ 0x27 → ⊥) → (c ≡ 0x60 → ⊥) → (c ≡ 0x23 → ⊥) → (c ≡ 0x2F → ⊥) → sign_at t at c ≡ sign.Symbol
-  unfolding sign_at
-  at_symbol a b d e f = rw (ne_eqb c 0x22 a, ne_eqb c 0x27 b, ne_eqb c 0x60 d, ne_eqb c 0x23 e, ne_eqb c 0x2F f)
-
 -- ---- a comment's two characters are within the script
 abbrev pub Paired : List ℕ → ℕ → Sign → Type 0
 Paired t at (sign.Literal o) = Unit {0}
@@ -132,26 +51,27 @@ Paired t at sign.Line = at + 2 ≤ length t
 Paired t at sign.Block = at + 2 ≤ length t
 Paired t at sign.Symbol = Unit {0}
 
-code_within : (t : List ℕ) (at c : ℕ) → code_of (look_at t at) ≡ c → c < 0x110000 → at + 1 ≤ length t
-code_within t at c q h = by (look_at t at) refl
+code_within : (t : List ℕ) (at d : ℕ) → is_code d (code_of (look_at t at)) ≡ true → at + 1 ≤ length t
+code_within t at d q = by (look_at t at) refl q
   where
-    by : (x : Look) → look_at t at ≡ x → at + 1 ≤ length t
-    by (Some (d, w)) e = omega (arith, at_width t at e)
-    by None e = let y : code_of None ≡ c = rw e at q in absurd (omega (arith, y, h))
+    by : (x : Look) → look_at t at ≡ x → is_code d (code_of x) ≡ true → at + 1 ≤ length t
+    by (Some (c, w)) e h = omega (arith, at_width t at e)
+    by None e h = cc
 
 module _ (t : List ℕ) (at : ℕ) where
-  slash_paired : (d : ℕ) → code_of (look_at t (at + 1)) ≡ d → Paired t at (slash_sign d)
+  slash_paired : Paired t at (slash_sign (code_of (look_at t (at + 1))))
   unfolding slash_sign
-  slash_paired d e =
-      pick_cases (Paired t at) (eqb d (code "/")) _ _
-      (λ y. omega (arith, code_within t (at + 1) 0x2F (e ∙ eqb-true d 0x2F y) (omega arith)))
-      (λ m. pick_cases (Paired t at) (eqb d (code "*")) _ _
-      (λ y. omega (arith, code_within t (at + 1) 0x2A (e ∙ eqb-true d 0x2A y) (omega arith)))
+  slash_paired =
+      let behind = code_of (look_at t (at + 1)) in
+      pick_cases (Paired t at) (is_code (code "/") behind) _ _
+      (λ y. omega (arith, code_within t (at + 1) (code "/") y))
+      (λ m. pick_cases (Paired t at) (is_code (code "*") behind) _ _
+      (λ y. omega (arith, code_within t (at + 1) (code "*") y))
       (λ n. tt))
 
-  hash_paired : (d : ℕ) → Paired t at (hash_sign d)
+  hash_paired : (behind : Option ℕ) → Paired t at (hash_sign behind)
   unfolding hash_sign
-  hash_paired d = pick_cases (Paired t at) (eqb d (code "{")) _ _ (λ y. tt) (λ n. tt)
+  hash_paired behind = pick_cases (Paired t at) (is_code (code "{") behind) _ _ (λ y. tt) (λ n. tt)
 
   pub sign_paired : (c : ℕ) → Paired t at (sign_at t at c)
   unfolding sign_at
@@ -160,7 +80,7 @@ module _ (t : List ℕ) (at : ℕ) where
       (λ n1. pick_cases (Paired t at) (eqb c (code "'")) _ _ (λ y. tt)
       (λ n2. pick_cases (Paired t at) (eqb c (code "`")) _ _ (λ y. tt)
       (λ n3. pick_cases (Paired t at) (eqb c (code "#")) _ _ (λ y. hash_paired _)
-      (λ n4. pick_cases (Paired t at) (eqb c (code "/")) _ _ (λ y. slash_paired _ refl)
+      (λ n4. pick_cases (Paired t at) (eqb c (code "/")) _ _ (λ y. slash_paired)
       (λ n5. tt)))))
 
   pub block_within : (c : ℕ) → sign_at t at c ≡ sign.Block → at + 2 ≤ length t
@@ -170,16 +90,6 @@ module _ (t : List ℕ) (at : ℕ) where
 pub signed : (t : List ℕ) (at : ℕ) (p : Position) (c w : ℕ) {m : Sign} → sign_at t at c ≡ m → mark_of t at p c w ≡ on_sign t at p w m
 unfolding mark_of
 signed t at p c w e = rw e
-
--- ---- what begins a word
-module _ (c : ℕ) where
-  pub word_letter : is_id_first_alphabetic c ≡ true → begins_word c ≡ true
-  unfolding begins_word
-  word_letter y = rw y
-
-  pub word_other : is_id_first_alphabetic c ≡ false → begins_word c ≡ eqb c (code "_")
-  unfolding begins_word
-  word_other n = rw n
 
 -- ---- no letter, no `_` and no digit is white
 letter_plain : (c : ℕ) → is_id_first_alphabetic c ≡ true → is_white c ≡ false

@@ -1,7 +1,6 @@
 -- What is found tells small numbers where its start is small. Assumes nothing.
 use Rattle.std.specs.Prelude.{Err, None, Ok, Some}
 use Prim.Native.Nat.{ℕ, ◌+◌, ◌-◌, ◌≤◌}
-use Prim.Native.Char.{code}
 use native.Mathlib.Omega.{arith}
 use mathlib.Core.Bool.{Bool}
 use mathlib.Core.List.{List}
@@ -28,7 +27,7 @@ use Rattle.symbols.specs.Symbols.{longest_symbol_of}
 use Rattle.symbols.specs.Found.{Longest}
 use Rattle.comment.specs.Block.{comment_of}
 use Rattle.comment.proofs.scan.Small.{comment_small}
-use Rattle.find.specs.Find.{white_of, word_of, number_run, symbol_of, line_comment, block_comment, code_of, slash_sign, hash_sign, sign_at, on_sign, mark_of, begins_word, begins_of, on_look, find_of}
+use Rattle.find.specs.Find.{white_of, word_of, number_run, symbol_of, line_comment, block_comment, sign_at, on_sign, mark_of, begins_word, begins_of, on_look, find_of}
 use Rattle.find.specs.declared.Sign.{Sign}
 use Rattle.find.specs.declared.Sign.TheVariants as sign
 use Rattle.find.specs.declared.Found.{Found}
@@ -37,8 +36,8 @@ use Rattle.find.specs.declared.Found.TheVariants.{White, Part, Literal, Wrong, E
 module _ (white : ℕ → Bool) (t book : List ℕ) where
   abbrev pub FoundSmall : Found → Type 0
   FoundSmall (White c) = Small c.place
-  FoundSmall (Part c k w) = (k ≤ 11) × Small c.place
-  FoundSmall (Literal c o) = (o.kind ≤ 11) × Small c.place
+  FoundSmall (Part c k w) = Small c.place
+  FoundSmall (Literal c o) = Small c.place
   FoundSmall (Wrong f) = Tells (length t) f
   FoundSmall End = Unit {0}
 
@@ -46,7 +45,7 @@ module _ (white : ℕ → Bool) (t book : List ℕ) where
     -- a character stands there, so many bytes wide
     symbol_small : (w : ℕ) → at + w ≤ length t → (x : Longest) → FoundSmall (symbol_of at w p x)
     unfolding symbol_of
-    symbol_small w l (Some (k, n)) = (omega arith, advanced_by_small (n - 1) h)
+    symbol_small w l (Some (k, n)) = advanced_by_small (n - 1) h
     symbol_small w l None = record { number = omega arith; place = h; at = omega arith; len = omega arith }
 
     word_small : (x : Identified) → IdentifiedSmall t book (cursor at p) h x → FoundSmall (word_of x)
@@ -60,49 +59,24 @@ module _ (white : ℕ → Bool) (t book : List ℕ) where
 
       line_small : FoundSmall (line_comment t (cursor (at + 2) (advanced p)))
       unfolding line_comment
-      line_small = (omega arith, end_small Stretch.Line t (cursor (at + 2) (advanced p)) (advanced_small h))
+      line_small = end_small Stretch.Line t (cursor (at + 2) (advanced p)) (advanced_small h)
 
       block_small : FoundSmall (block_comment t (cursor (at + 2) (advanced p)))
       unfolding block_comment
       block_small =
           let from = cursor (at + 2) (advanced p) in
           let k = comment_small t from 1 (advanced_small h) in
-          pick_cases FoundSmall (eqb (comment_of t from 1).level 0) _ _ (λ y. (omega arith, k)) (λ n. fault_tells (length t) 11 (omega arith) k)
-
-      -- the kind of a literal that a mark is the sign of
-      abbrev SignSmall : Sign → Type 0
-      SignSmall (sign.Literal o) = o.kind ≤ 11
-      SignSmall sign.Line = Unit {0}
-      SignSmall sign.Block = Unit {0}
-      SignSmall sign.Symbol = Unit {0}
-
-      slash_small : (d : ℕ) → SignSmall (slash_sign d)
-      unfolding slash_sign
-      slash_small d = pick_cases SignSmall (eqb d (code "/")) _ _ (λ y. tt) (λ n. pick_cases SignSmall (eqb d (code "*")) _ _ (λ y. tt) (λ m. tt))
-
-      hash_small : (d : ℕ) → SignSmall (hash_sign d)
-      unfolding hash_sign
-      hash_small d = pick_cases SignSmall (eqb d (code "{")) _ _ (λ y. tt) (λ n. omega arith)
-
-      sign_small : SignSmall (sign_at t at c)
-      unfolding sign_at
-      sign_small =
-          pick_cases SignSmall (eqb c (code "\"")) _ _ (λ y. omega arith)
-          (λ n1. pick_cases SignSmall (eqb c (code "'")) _ _ (λ y. omega arith)
-          (λ n2. pick_cases SignSmall (eqb c (code "`")) _ _ (λ y. omega arith)
-          (λ n3. pick_cases SignSmall (eqb c (code "#")) _ _ (λ y. hash_small (code_of (look_at t (at + 1))))
-          (λ n4. pick_cases SignSmall (eqb c (code "/")) _ _ (λ y. slash_small (code_of (look_at t (at + 1))))
-          (λ n5. tt)))))
+          pick_cases FoundSmall (eqb (comment_of t from 1).level 0) _ _ (λ y. k) (λ n. fault_tells (length t) _ k)
 
       mark_small : FoundSmall (mark_of t at p c w)
       unfolding mark_of
-      mark_small = by (sign_at t at c) sign_small
+      mark_small = by (sign_at t at c)
         where
-          by : (m : Sign) → SignSmall m → FoundSmall (on_sign t at p w m)
-          by (sign.Literal o) l = (l, h)
-          by sign.Line l = line_small
-          by sign.Block l = block_small
-          by sign.Symbol l = symbol_small w wide.1 (longest_symbol_of t at)
+          by : (m : Sign) → FoundSmall (on_sign t at p w m)
+          by (sign.Literal o) = h
+          by sign.Line = line_small
+          by sign.Block = block_small
+          by sign.Symbol = symbol_small w wide.1 (longest_symbol_of t at)
 
       begins_small : FoundSmall (begins_of white t book at p c w)
       unfolding begins_of white_of number_run
@@ -110,7 +84,7 @@ module _ (white : ℕ → Bool) (t book : List ℕ) where
           pick_cases FoundSmall (white c) _ _ (λ y. pick_cases (λ (x : Cursor). Small x.place) (eqb c 0x0A) _ _ (λ z. lined_small h) (λ z. h))
           (λ n1. pick_cases FoundSmall (begins_word c) _ _
           (λ y. word_small (identify_of t book (cursor at p)) (identified_small t book (cursor at p) h))
-          (λ n2. pick_cases FoundSmall (is_numeric_digit c) _ _ (λ y. (omega arith, end_small Stretch.Word t (cursor (at + w) p) h))
+          (λ n2. pick_cases FoundSmall (is_numeric_digit c) _ _ (λ y. end_small Stretch.Word t (cursor (at + w) p) h)
           (λ n3. mark_small)))
 
   pub find_small : (s : Cursor) → Small s.place → FoundSmall (find_of white t book s)

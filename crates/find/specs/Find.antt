@@ -1,5 +1,5 @@
 -- What begins at a place of a script: document 01, "Run": "Skips White_Space, then: letter or `_` an identifier; digit a number run; `"`, `'`, backtick; `#` before `{` is a symbol, else raw; `//` to before LF; `/*`; else the longest listed symbol".
-use Rattle.std.specs.Prelude.{ℕ, ◌+◌, ◌-◌, Bool, eqb, Err, None, Ok, Some}
+use Rattle.std.specs.Prelude.{ℕ, ◌+◌, ◌-◌, Bool, false, eqb, Option, Err, None, Ok, Some}
 use Rattle.basis.specs.Types.{Bytes, Code, Offset, Text}
 use Rattle.basis.specs.Pick.{pick, either}
 use Rattle.position.specs.declared.Position.{Position}
@@ -8,7 +8,8 @@ use Rattle.utf8.specs.Table.{look_at}
 use Rattle.utf8.specs.Looks.{Look}
 use Rattle.classes.specs.Class.{is_numeric_digit, is_id_first_alphabetic}
 use Rattle.classes.specs.Marks.{lf, quote, hash, apostrophe, star, slash, underscore, backtick, left_brace}
-use Rattle.entry.specs.Kinds as Kind
+use Rattle.entry.specs.declared.kinds.Kind.{Kind}
+use Rattle.entry.specs.Kinds as kind
 use Rattle.chars.specs.Cursors.{cursor}
 use Rattle.chars.specs.declared.cursor.Cursor.{Cursor}
 use Rattle.chars.specs.Ends.{stretch_end}
@@ -27,20 +28,20 @@ use Rattle.find.specs.declared.Found.{Found}
 use Rattle.find.specs.declared.Found.TheVariants.{White, Part, Literal, Wrong, End}
 
 -- what opens a literal, by its kind and by the terminator that closes it; a raw literal's is `#`
-abbrev pub opener : ℕ → Code → Opener
+abbrev pub opener : Kind → Code → Opener
 opener k q = record { kind = k; terminator = q }
 
 abbrev pub opens_string : Opener
-opens_string = opener Kind.string quote
+opens_string = opener kind.string quote
 
 abbrev pub opens_char : Opener
-opens_char = opener Kind.char apostrophe
+opens_char = opener kind.char apostrophe
 
 abbrev pub opens_text : Opener
-opens_text = opener Kind.text backtick
+opens_text = opener kind.text backtick
 
 abbrev pub opens_raw : Opener
-opens_raw = opener Kind.raw hash
+opens_raw = opener kind.raw hash
 
 -- past a character that is white: only LF starts a line
 unfoldable pub white_of : Code → Cursor → Found
@@ -53,33 +54,38 @@ word_of (Err (f, c)) = Wrong f
 
 -- a number: the longest run of ASCII letters, digits and `_`
 unfoldable pub number_run : Text → Cursor → Found
-number_run t to = Part (stretch_end Stretch.Word t to) Kind.number Token.IntegerConstant
+number_run t to = Part (stretch_end Stretch.Word t to) kind.number Token.IntegerConstant
 
 -- the longest listed symbol, whose first character is at p; or 5, about a character so many bytes wide
 unfoldable pub symbol_of : Offset → ℕ → Position → Longest → Found
-symbol_of at w p (Some (token, n)) = Part (cursor (at + n) (advanced_by (n - 1) p)) Kind.symbol token
+symbol_of at w p (Some (token, n)) = Part (cursor (at + n) (advanced_by (n - 1) p)) kind.symbol token
 symbol_of at w p None = Wrong (unexpected_input p (part at w))
 
 -- `//` to before LF, from behind the second character
 unfoldable pub line_comment : Text → Cursor → Found
-line_comment t c = Part (stretch_end Stretch.Line t c) Kind.comment Token.Comment
+line_comment t c = Part (stretch_end Stretch.Line t c) kind.comment Token.Comment
 
 -- `/*` to its end, from behind the second character; 11 at the cursor where a level is still open there
 unfoldable pub block_comment : Text → Cursor → Found
-block_comment t c = let r = comment_of t c 1 in pick (eqb r.level 0) (Part r.cursor Kind.comment Token.Comment) (Wrong (still_open r.cursor.place))
+block_comment t c = let r = comment_of t c 1 in pick (eqb r.level 0) (Part r.cursor kind.comment Token.Comment) (Wrong (still_open r.cursor.place))
 
--- the code point of a character found; no code point at the end
-abbrev pub code_of : Look → ℕ
-code_of (Some (c, w)) = c
-code_of None = 0x110000
+-- the code point of a character found; None at the end
+abbrev pub code_of : Look → Option Code
+code_of (Some (c, w)) = Some c
+code_of None = None
+
+-- it is the code point d
+abbrev pub is_code : Code → Option Code → Bool
+is_code d (Some c) = eqb c d
+is_code d None = false
 
 -- what `/` is the sign of, by the character behind it
-unfoldable pub slash_sign : Code → Sign
-slash_sign d = pick (eqb d slash) sign.Line (pick (eqb d star) sign.Block sign.Symbol)
+unfoldable pub slash_sign : Option Code → Sign
+slash_sign behind = pick (is_code slash behind) sign.Line (pick (is_code star behind) sign.Block sign.Symbol)
 
 -- what `#` is the sign of, by the character behind it
-unfoldable pub hash_sign : Code → Sign
-hash_sign d = pick (eqb d left_brace) sign.Symbol (sign.Literal opens_raw)
+unfoldable pub hash_sign : Option Code → Sign
+hash_sign behind = pick (is_code left_brace behind) sign.Symbol (sign.Literal opens_raw)
 
 -- what a mark at an offset is the sign of. A mark is a character that is not white, no letter, no `_` and no digit
 unfoldable pub sign_at : Text → Offset → Code → Sign

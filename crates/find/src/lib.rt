@@ -25,36 +25,37 @@ ghost use Rattle.find.specs.Skip.{skip_of};
 use chars::cursor::Cursor;
 use chars::stretch::Stretch;
 use classes::marks;
-use entry::kinds;
+use comment::scan::Comment;
+use entry::kinds::Kind;
 use fault::{Fault, Part};
-use position::Position;
+use lex_error::LexError;
 use token::tokens;
 
 // What opens a literal: its kind, and the terminator that closes it; a raw literal's is `#`.
 #[derive(Clone, Copy)]
 pub struct Opener {
-    pub kind: u8,
+    pub kind: Kind,
     pub terminator: u32,
 }
 
 impl Opener {
     pub const STRING: Self = Self {
-        kind: kinds::STRING,
+        kind: Kind::String,
         terminator: marks::QUOTE,
     };
 
     pub const CHAR: Self = Self {
-        kind: kinds::CHAR,
+        kind: Kind::Char,
         terminator: marks::APOSTROPHE,
     };
 
     pub const TEXT: Self = Self {
-        kind: kinds::TEXT,
+        kind: Kind::Text,
         terminator: marks::BACKTICK,
     };
 
     pub const RAW: Self = Self {
-        kind: kinds::RAW,
+        kind: Kind::Raw,
         terminator: marks::HASH,
     };
 }
@@ -65,7 +66,7 @@ pub enum Found {
     // White space, up to a cursor.
     White(Cursor),
     // A token that is a part of the script: the cursor behind it, its kind, and the Rust's token.
-    Part(Cursor, u8, u8),
+    Part(Cursor, Kind, u8),
     // A literal: the cursor behind what opens it, whose place is the literal's start, and what opens it.
     Literal(Cursor, Opener),
     // Nothing that a script may have.
@@ -87,101 +88,91 @@ enum Sign {
     Symbol,
 }
 
-// The longest listed symbol, whose first character is at a place; or 5, about a character so many bytes wide.
-fn symbol(text: &[u8], at: usize, place: Position, width: usize) -> Found
-    requires { at ≤ length text.now }
-    ensures { result ≡ symbol_of at width place (longest_symbol_of text.now at) }
+// The longest listed symbol, whose first character is at a cursor; or 5, about a character so many bytes wide.
+fn symbol(text: &[u8], start: Cursor, width: usize) -> Found
+    requires { start.at ≤ length text.now }
+    ensures { result ≡ symbol_of start.at width start.place (longest_symbol_of text.now start.at) }
 {
+    let Cursor { at, place } = start;
     let Some((token, n)) = symbols::longest_of(&text[at..]) else {
-        return Found::Wrong(Fault::about(Fault::UNEXPECTED_INPUT, place, Part { at, len: width }));
+        let part = Part { at, len: width };
+        return Found::Wrong(Fault::about(LexError::UnexpectedInput, place, part));
     };
-    let last = place.advanced_by(n - 1);
-    Found::Part(
-        Cursor {
-            at: at + n,
-            place: last,
-        },
-        kinds::SYMBOL,
-        token,
-    )
+    let end = Cursor {
+        at: at + n,
+        place: place.advanced_by(n - 1),
+    };
+    Found::Part(end, Kind::Symbol, token)
 }
 
 // A block comment, from behind its `/*`; 11 at the cursor where a level is still open at the end.
+#[tactic(auto, unfolding(crate::specs::Find::block_comment))]
 fn block(text: &[u8], from: Cursor) -> Found
     requires { from.at ≤ length text.now }
     ensures { result ≡ block_comment text.now from }
 {
-    let comment = comment::scan::scan(text, from, 1);
-    let end = comment.cursor;
-    if comment.level == 0 {
-        return Found::Part(end, kinds::COMMENT, tokens::COMMENT);
+    let Comment { level, cursor } = comment::scan::scan(text, from, 1);
+    if level == 0 {
+        Found::Part(cursor, Kind::Comment, tokens::COMMENT)
+    } else {
+        Found::Wrong(Fault::at(LexError::StillOpen, cursor.place))
     }
-    Found::Wrong(Fault::at(Fault::STILL_OPEN, end.place))
 }
 
-// The code point at an offset; no code point at the end.
-fn code_at(text: &[u8], at: usize) -> u32
+// The code point at an offset; None at the end.
+fn code_at(text: &[u8], at: usize) -> Option<u32>
     ensures { result ≡ code_of (look_at text.now at) }
 {
-    let Some((c, _)) = utf8::look_at(text, at) else {
-        return 0x110000;
-    };
-    c
+    let (c, _) = utf8::look_at(text, at)?;
+    Some(c)
 }
 
 // What `/` is the sign of, by the character behind it.
-fn slash(d: u32) -> Sign
-    ensures { result ≡ slash_sign d }
+#[tactic(auto, unfolding(crate::specs::Find::slash_sign))]
+fn slash(behind: Option<u32>) -> Sign
+    ensures { result ≡ slash_sign behind }
 {
-    if d == marks::SLASH {
-        return Sign::Line;
+    match behind {
+        Some(marks::SLASH) => Sign::Line,
+        Some(marks::STAR) => Sign::Block,
+        _ => Sign::Symbol,
     }
-    if d == marks::STAR {
-        return Sign::Block;
-    }
-    Sign::Symbol
 }
 
 // What `#` is the sign of, by the character behind it.
-fn hash(d: u32) -> Sign
-    ensures { result ≡ hash_sign d }
+#[tactic(auto, unfolding(crate::specs::Find::hash_sign))]
+fn hash(behind: Option<u32>) -> Sign
+    ensures { result ≡ hash_sign behind }
 {
-    if d == marks::LEFT_BRACE {
-        return Sign::Symbol;
+    match behind {
+        Some(marks::LEFT_BRACE) => Sign::Symbol,
+        _ => Sign::Literal(Opener::RAW),
     }
-    Sign::Literal(Opener::RAW)
 }
 
 // What a mark at an offset is the sign of.
+#[tactic(auto, unfolding(crate::specs::Find::sign_at))]
 fn sign_at(text: &[u8], at: usize, c: u32) -> Sign
     requires { at ≤ length text.now }
     ensures { result ≡ sign_at text.now at c }
 {
-    if c == marks::QUOTE {
-        return Sign::Literal(Opener::STRING);
+    match c {
+        marks::QUOTE => Sign::Literal(Opener::STRING),
+        marks::APOSTROPHE => Sign::Literal(Opener::CHAR),
+        marks::BACKTICK => Sign::Literal(Opener::TEXT),
+        marks::HASH => hash(code_at(text, at + 1)),
+        marks::SLASH => slash(code_at(text, at + 1)),
+        _ => Sign::Symbol,
     }
-    if c == marks::APOSTROPHE {
-        return Sign::Literal(Opener::CHAR);
-    }
-    if c == marks::BACKTICK {
-        return Sign::Literal(Opener::TEXT);
-    }
-    if c == marks::HASH {
-        return hash(code_at(text, at + 1));
-    }
-    if c == marks::SLASH {
-        return slash(code_at(text, at + 1));
-    }
-    Sign::Symbol
 }
 
 // What a mark begins. `symbol` is called from this one place, so that the compiler draws it in.
-fn mark(text: &[u8], at: usize, place: Position, c: u32, width: usize) -> Found
-    requires { at + width ≤ length text.now }
-    ensures { result ≡ mark_of text.now at place c width }
+fn mark(text: &[u8], start: Cursor, c: u32, width: usize) -> Found
+    requires { start.at + width ≤ length text.now }
+    ensures { result ≡ mark_of text.now start.at start.place c width }
 {
-    let sign = sign_at(text, at, c);
-    match sign {
+    let Cursor { at, place } = start;
+    match sign_at(text, at, c) {
         Sign::Literal(opener) => Found::Literal(
             Cursor {
                 at: at + width,
@@ -198,7 +189,7 @@ fn mark(text: &[u8], at: usize, place: Position, c: u32, width: usize) -> Found
                     place: place.advanced(),
                 },
             ),
-            kinds::COMMENT,
+            Kind::Comment,
             tokens::COMMENT,
         ),
         Sign::Block => block(
@@ -208,11 +199,12 @@ fn mark(text: &[u8], at: usize, place: Position, c: u32, width: usize) -> Found
                 place: place.advanced(),
             },
         ),
-        Sign::Symbol => symbol(text, at, place, width),
+        Sign::Symbol => symbol(text, start, width),
     }
 }
 
 // A name, a keyword, a reserved word, the symbol `_`; or 8.
+#[tactic(auto, unfolding(crate::specs::Find::word_of))]
 fn word(book: &[u8], text: &[u8], start: Cursor) -> Found
     requires { good book.now ≡ true }
     ensures { result ≡ word_of (identify_of text.now book.now start) }
@@ -224,50 +216,44 @@ fn word(book: &[u8], text: &[u8], start: Cursor) -> Found
 }
 
 // A letter or `_`. It is one test, so that `word` is called from one place and drawn in as well.
+#[tactic(auto, unfolding(crate::specs::Find::begins_word))]
 fn begins_word(c: u32) -> bool
     ensures { result ≡ begins_word c }
 {
-    if classes::is_id_first_alphabetic(c) {
-        return true;
-    }
-    c == marks::UNDERSCORE
+    classes::is_id_first_alphabetic(c) || c == marks::UNDERSCORE
 }
 
 // Past a character that is white: only LF starts a line.
+#[tactic(auto, unfolding(crate::specs::Find::white_of))]
 fn white(c: u32, next: Cursor) -> Found
     ensures { result ≡ white_of c next }
 {
     if c == marks::LF {
-        let at = next.at;
         let place = next.place.lined();
-        return Found::White(Cursor { at, place });
+        Found::White(Cursor { place, ..next })
+    } else {
+        Found::White(next)
     }
-    Found::White(next)
 }
 
-// Behind the ASCII white space that follows a cursor; only LF starts a line.
+// Behind the ASCII white space that follows a cursor; only LF starts a line. The offset and the place are two variables: the
+// compiler keeps them in registers, and one cursor it does not.
 pub fn skip(text: &[u8], from: Cursor) -> Cursor
     ensures { result ≡ skip_of is_white text.now from }
 {
     let mut at = from.at;
     let mut place = from.place;
-    loop {
-        let Some((c, width)) = utf8::look_at(text, at) else {
-            return Cursor { at, place };
-        };
-        if 0x80 <= c {
-            return Cursor { at, place };
+    while let Some((c, width)) = utf8::look_at(text, at) {
+        if 0x80 <= c || !white::is_white(c) {
+            break;
         }
-        if white::is_white(c) {
-            at += width;
-            place = place.advanced();
-            if c == marks::LF {
-                place = place.lined();
-            }
-        } else {
-            return Cursor { at, place };
+        at += width;
+        place = place.advanced();
+        if c == marks::LF {
+            place = place.lined();
         }
     }
+    Cursor { at, place }
 }
 
 // What begins behind a cursor, for a run, which has checked its text and its book. Letters come first, since most tokens
@@ -276,27 +262,23 @@ pub fn find(book: &[u8], text: &[u8], from: Cursor) -> Found
     requires { good book.now ≡ true }
     ensures { result ≡ find_of is_white text.now book.now from }
 {
-    let at = from.at;
-    let place = from.place.advanced();
-    let Some((c, width)) = utf8::look_at(text, at) else {
+    let Some((c, width)) = utf8::look_at(text, from.at) else {
         return Found::End;
     };
+    let place = from.place.advanced();
+    let start = Cursor { place, ..from };
     let next = Cursor {
-        at: at + width,
+        at: from.at + width,
         place,
     };
     if begins_word(c) {
-        return word(book, text, Cursor { at, place });
+        word(book, text, start)
+    } else if classes::is_numeric_digit(c) {
+        let end = chars::stretch::end_of(Stretch::Word, text, next);
+        Found::Part(end, Kind::Number, tokens::INTEGER_CONSTANT)
+    } else if white::is_white(c) {
+        white(c, next)
+    } else {
+        mark(text, start, c, width)
     }
-    if classes::is_numeric_digit(c) {
-        return Found::Part(
-            chars::stretch::end_of(Stretch::Word, text, next),
-            kinds::NUMBER,
-            tokens::INTEGER_CONSTANT,
-        );
-    }
-    if white::is_white(c) {
-        return white(c, next);
-    }
-    mark(text, at, place, c, width)
 }

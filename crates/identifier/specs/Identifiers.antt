@@ -9,7 +9,10 @@
 -- | `_a1`                            | name                           |
 -- | `_1`, `__`, `éa`                 | 8, with the whole text         |
 -- | nothing                          | 3                              |
-use Rattle.std.specs.Prelude.{ℕ, ◌+◌, ◌-◌, eqb, leb, length, get_or, take, drop, None, Ok, Some}
+use Rattle.entry.specs.declared.kinds.Kind.{Kind}
+use Rattle.lex_error.specs.Numbers.{Asked, asked_then, on_asked}
+use Rattle.lex_error.specs.declared.LexError.TheVariants.{BadArgument}
+use Rattle.std.specs.Prelude.{◌+◌, ◌-◌, leb, length, get_or, take, drop, None, Ok, Some, Err}
 use Rattle.basis.specs.Types.{Text, Bytes, Offset}
 use Rattle.basis.specs.Pick.{pick, either, isnt}
 use Rattle.position.specs.Place.{on_line}
@@ -31,11 +34,10 @@ use Rattle.book.specs.Book.{check_of}
 use Rattle.std.specs.Option.{is_some}
 use Rattle.book_lookup.specs.Lookup.{reserved_of}
 use Rattle.identifier.specs.Valid.{is_valid_identifier}
-use Rattle.identifier.specs.Answer.{Class, classed, refused_at}
-use Rattle.identifier.specs.Answer.{Identified}
+use Rattle.identifier.specs.Answer.{Class, Identified, classed, refused_at}
 
 -- the kind of a listed word: a keyword is of letters, and any other is a symbol
-unfoldable pub listed_kind : Text → ℕ
+unfoldable pub listed_kind : Text → Kind
 listed_kind w = pick (is_id_first_alphabetic (get_or w 0 0)) keyword symbol
 
 -- what no list has: a name, or malformed
@@ -67,18 +69,17 @@ spanned t book s e = identified_as s e (class_of book (text_between t s e))
 -- the first character is taken, whichever it is, and its place is the one given; none there is 3
 unfoldable pub identified_from : Text → Bytes → Cursor → Look → Identified
 identified_from t book s (Some (c, w)) = spanned t book s (stretch_end Stretch.Word t (cursor (s.at + w) s.place))
-identified_from t book s None = refused_at (fault 3 s.place) s
+identified_from t book s None = refused_at (fault BadArgument s.place) s
 
 -- the identifier that begins at a cursor, under a good book
 unfoldable pub identify_of : Text → Bytes → Cursor → Identified
 identify_of t book s = identified_from t book s (look_at t s.at)
 
--- what the arguments refuse: 2, 1, 3, 14 in that order; else 0
-unfoldable pub identifier_argument : Text → Offset → Position → Bytes → ℕ
+-- what the arguments refuse: 2, 1, 3, 14 in that order
+unfoldable pub identifier_argument : Text → Offset → Position → Bytes → Asked
 identifier_argument t at p book =
-    pick (isnt (eqb (door_of t at) 0)) (door_of t at)
-    (pick (either (isnt (on_line p)) (leb (length t) at)) 3 (check_of book))
+    asked_then (door_of t at) (pick (either (isnt (on_line p)) (leb (length t) at)) (Err BadArgument) (check_of book))
 
 -- the whole answer of the entry; what the arguments refuse is reported at the place given
 unfoldable pub identifier_of : Text → Offset → Position → Bytes → Identified
-identifier_of t at p book = pick (eqb (identifier_argument t at p book) 0) (identify_of t book (cursor at p)) (refused_at (fault (identifier_argument t at p book) p) (cursor at p))
+identifier_of t at p book = on_asked (identifier_argument t at p book) (identify_of t book (cursor at p)) (λ e. refused_at (fault e p) (cursor at p))

@@ -1,4 +1,6 @@
 -- Document 01's number and values for each case of an identifier's scan.
+use Rattle.entry.specs.Kinds.{kind_number}
+use Rattle.lex_error.specs.Numbers.{number_of}
 use Rattle.std.specs.Prelude.{ℕ, Err, Ok}
 use Rattle.position.specs.Place.{none}
 use Rattle.position.specs.declared.Position.{Position}
@@ -18,5 +20,5 @@ pub record Told : Type 0 where
 
 -- the values of each case; a refusal has no kind and no token
 unfoldable pub told : Identified → Told
-told (Ok w) = record { number = 0; place = none; about = part 0 0; kind = w.kind; token = w.token; cursor = w.cursor }
-told (Err (f, c)) = record { number = f.number; place = f.place; about = f.part; kind = 0; token = 0; cursor = c }
+told (Ok w) = record { number = 0; place = none; about = part 0 0; kind = kind_number w.kind; token = w.token; cursor = w.cursor }
+told (Err (f, c)) = record { number = number_of f.error; place = f.place; about = f.part; kind = 0; token = 0; cursor = c }

@@ -1,4 +1,5 @@
 -- A text written at the front of lent memory, for each way out: it has room, or it has none. Assumes nothing.
+use Rattle.lex_error.specs.declared.LexError.TheVariants.{NoLiteralRoom}
 use Rattle.std.specs.Prelude.{Err, Ok}
 use Prim.Native.Nat.{ℕ, ◌≤◌, ◌<◌}
 use native.Mathlib.Omega.{arith}
@@ -13,7 +14,7 @@ use Rattle.lent.specs.Written.{written_of, left_of}
 
 module _ (text memory : List ℕ) where
   module _ (h : length memory < length text) where
-    pub refused : written_of text memory ≡ Err 9
+    pub refused : written_of text memory ≡ Err NoLiteralRoom
     unfolding written_of
     refused = rw (lt-ltb _ _ h)
 

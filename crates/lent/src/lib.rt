@@ -5,8 +5,10 @@ ghost use Rattle.std.specs.Prelude.{◌≡◌, ◌+◌, ◌≤◌, SomeIff, leng
 ghost use Rattle.basis.specs.Store.{stored, after};
 ghost use Rattle.lent.specs.Written.{written_of, left_of};
 
-// How a write went: how many bytes were written, or the refusal's number.
-pub type Written = Result<usize, u8>;
+use lex_error::LexError;
+
+// How a write went: how many bytes were written, or the refusal.
+pub type Written = Result<usize, LexError>;
 
 // The index after n bytes from an index on, where they have room.
 pub fn room(out: &[u8], at: usize, n: usize) -> Option<usize>
@@ -46,7 +48,7 @@ pub fn write(text: &[u8], out: &mut [u8]) -> Written
     ensures out_after { out.new ≡ left_of text.now out.old }
 {
     if out.len() < text.len() {
-        return Err(9);
+        return Err(LexError::NoLiteralRoom);
     }
     Ok(copy(text, out, 0))
 }

@@ -1,4 +1,6 @@
 -- The listing of a script: document 01, "Listing program", and "Bytes are lowercase hex, `-` for none; positions as the source's Debug form. A refused run ends `stop N place`; input past the buffer prints only `stop 2 1`".
+use Rattle.entry.specs.Kinds.{kind_number}
+use Rattle.lex_error.specs.Numbers.{number_of}
 use Rattle.std.specs.Prelude.{ℕ, zero, suc, ◌+◌, ◌/◌, ◌%◌, min, List, [], ◌∷◌, ◌++◌, leb, ltb, length, get_or, take, drop, replicate, Err, Ok}
 use Rattle.basis.specs.Types.{Bytes, Offset, Text}
 use Rattle.basis.specs.Pick.{pick, both}
@@ -66,7 +68,7 @@ part_at bs at n = pick (leb (at + n) (length bs)) (take n (drop at bs)) []
 
 -- the bytes of an entry: those of literals, from string to char, are packed, and all else is a part of the script
 unfoldable pub token_bytes : Text → Bytes → ℕ → Offset → ℕ → List ℕ
-token_bytes t ls k at n = part_at (pick (both (leb Kind.string k) (leb k Kind.char)) ls t) at n
+token_bytes t ls k at n = part_at (pick (both (leb (kind_number Kind.string) k) (leb k (kind_number Kind.char))) ls t) at n
 
 -- the line of the entry that five numbers make: kind, line, position, offset, length
 unfoldable pub entry_line : Text → Bytes → List ℕ → List (List ℕ)
@@ -80,7 +82,7 @@ entries_lines t ls (suc n) es = entry_line t ls es ++ entries_lines t ls n (drop
 -- the last line
 unfoldable pub ending_line : Ending → List (List ℕ)
 ending_line (Ok p) = word "end " ∷ debug_of p ∷ word "\n" ∷ []
-ending_line (Err f) = word "stop " ∷ decimal f.number ∷ word " " ∷ debug_of f.place ∷ word "\n" ∷ []
+ending_line (Err f) = word "stop " ∷ decimal (number_of f.error) ∷ word " " ∷ debug_of f.place ∷ word "\n" ∷ []
 
 -- all lines of a run that leaves this, where the memory lent for literal bytes and for entries was ls and es
 unfoldable pub left_lines : Text → Bytes → List ℕ → Left → List (List ℕ)

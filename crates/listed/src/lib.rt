@@ -9,7 +9,8 @@ ghost use Rattle.listed.specs.Texts.{writing, put, puts};
 ghost use Rattle.listed.specs.Listing.{hex_digit, hex_byte, hex_of, kind_word, token_line, part_at, token_bytes, entry_line, entries_lines, ending_line, run_lines, listing_of};
 
 use display::Shown;
-use entry::{Entry, kinds};
+use entry::Entry;
+use entry::kinds::Kind;
 use lent::Written;
 use position::Position;
 use reading::Ending;
@@ -125,7 +126,7 @@ fn coordinate(n: u32) -> u16
 fn bytes_of<'a>(script: &'a [u8], literals: &'a [u8], kind: u32, at: u32, len: u32) -> &'a [u8]
     ensures { result.now ≡ token_bytes script.now literals.now kind at len }
 {
-    if kinds::STRING as u32 <= kind && kind <= kinds::CHAR as u32 {
+    if Kind::String as u32 <= kind && kind <= Kind::Char as u32 {
         part(literals, at as usize, len as usize)
     } else {
         part(script, at as usize, len as usize)
@@ -188,7 +189,7 @@ fn put_ending(ending: Ending, out: &mut [u8], at: usize) -> usize
         }
         Err(fault) => {
             let mut n = put_word(b"stop ", &mut *out, at);
-            n = put_number(fault.number, &mut *out, n);
+            n = put_number(fault.error.number(), &mut *out, n);
             n = put_byte(b' ', &mut *out, n);
             n = put_place(fault.place, &mut *out, n);
             put_byte(b'\n', out, n)

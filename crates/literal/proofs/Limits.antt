@@ -13,7 +13,7 @@ use borrow.Author.Tests.{le-ltb, ltb-false, eq-eqb, ne_eqb, le-leb, lt-leb, leb-
 use Rattle.basis.specs.Pick.{pick}
 use Rattle.basis.proofs.Cases.{pick_cases}
 use Rattle.position.specs.declared.Position.{Position}
-use Rattle.fault.specs.Faults.{string_too_long, Own}
+use Rattle.fault.specs.Faults.{string_too_long, number, Own}
 use Rattle.fault.specs.declared.Fault.{Fault}
 use Rattle.literal.specs.Trace.{Trace, ends, fails, adds, checks, bytes, final, Outcome, good, bad, passes}
 use Rattle.literal.specs.Cut.{cut, answer}
@@ -96,7 +96,7 @@ looser l m n (inr p) h =
     let k : ltb l n ≡ false = rw (ne_eqb l 0 (λ e. omega arith)) at h in
     rw (ne_eqb m 0 (λ e. omega arith), le-ltb m n (omega (arith, ltb-false l n k)))
 
-module _ (full : Refusal) (l m r s : ℕ) (start : Position) (nine : full.fault.number ≡ 9) (loose : Looser l m) (more : r ≤ s) where
+module _ (full : Refusal) (l m r s : ℕ) (start : Position) (nine : number full.fault ≡ 9) (loose : Looser l m) (more : r ≤ s) where
   recurs : (n : ℕ) (t : Trace) → FairTrace start t → (refusal_number (cut full l r n t) ≡ 7 → ⊥) → (refusal_number (cut full l r n t) ≡ 9 → ⊥) → cut full m s n t ≡ cut full l r n t
   unfolding cut refusal_number
   recurs n (ends e) sv = λ x y. refl
@@ -107,7 +107,7 @@ module _ (full : Refusal) (l m r s : ℕ) (start : Position) (nine : full.fault.
       (λ q x y. absurd (y nine))
   recurs n (checks f t) sv =
       pick_cases (λ (a : Scanned). (refusal_number a ≡ 7 → ⊥) → (refusal_number a ≡ 9 → ⊥) → pick (passes m n) (Err f) (cut full m s n t) ≡ a) (passes l n) _ _
-      (λ q x y. absurd (x (ap (λ (g : Fault). g.number) sv.0)))
+      (λ q x y. absurd (x (ap number sv.0)))
       (λ q x y. rw (looser l m n loose q) (recurs n t sv.1 x y))
 
 pub recurs_whole : RecursWhole
@@ -227,7 +227,7 @@ unfolding answer
 answer_bad n (good e) f h = not_accepted (sym h)
 answer_bad n (bad g) f h = ap bad (refusal_is h)
 
-module _ (full : Refusal) (limit room : ℕ) (start : Position) (t : Trace) (f : Refusal) (nine : full.fault.number ≡ 9) (sv : FairTrace start t) (h : cut full limit room 0 t ≡ Err f) where
+module _ (full : Refusal) (limit room : ℕ) (start : Position) (t : Trace) (f : Refusal) (nine : number full.fault ≡ 9) (sv : FairTrace start t) (h : cut full limit room 0 t ≡ Err f) where
   -- it is cut so, or is refused by a rule of its own
   abbrev CutSo : Type 0
   CutSo = ((by : Bound) × Cuts full limit room 0 t by f) ⊎ Own f.fault
@@ -239,15 +239,15 @@ module _ (full : Refusal) (limit room : ℕ) (start : Position) (t : Trace) (f :
       by (inl (b, g, c)) = let q : g ≡ f = refusal_is (sym (cut_there full limit room t b g c) ∙ h) in inl (b, rw q at c)
       by (inr never) = inr (own_refusal start t f sv (answer_bad (length (bytes t)) (final t) f (sym (uncut_else full limit room t never) ∙ h)))
 
-  seven : f.fault.number ≡ 7 → CutSo → Cuts full limit room 0 t string_limit f
+  seven : number f.fault ≡ 7 → CutSo → Cuts full limit room 0 t string_limit f
   seven e (inr own) = absurd (own.0 e)
   seven e (inl (string_limit, c)) = c
-  seven e (inl (literal_room, c)) = absurd (let q = ap (λ (g : Refusal). g.fault.number) (cuts_by full limit room start sv c) in omega arith)
+  seven e (inl (literal_room, c)) = absurd (let q = ap (λ (g : Refusal). number g.fault) (cuts_by full limit room start sv c) in omega arith)
   seven e (inl (token_room, c)) = absurd (cuts_by full limit room start sv c)
 
-  nine_so : f.fault.number ≡ 9 → CutSo → Cuts full limit room 0 t literal_room f
+  nine_so : number f.fault ≡ 9 → CutSo → Cuts full limit room 0 t literal_room f
   nine_so e (inr own) = absurd (own.1 e)
-  nine_so e (inl (string_limit, c)) = absurd (let q = ap (λ (g : Fault). g.number) (cuts_by full limit room start sv c) in omega arith)
+  nine_so e (inl (string_limit, c)) = absurd (let q = ap number (cuts_by full limit room start sv c) in omega arith)
   nine_so e (inl (literal_room, c)) = c
   nine_so e (inl (token_room, c)) = absurd (cuts_by full limit room start sv c)
 

@@ -1,4 +1,5 @@
 -- What a literal's reading tells is small, and so is what is cut of it. Assumes nothing.
+use Rattle.lex_error.specs.declared.LexError.TheVariants.{StringTooLong}
 use Rattle.std.specs.Prelude.{Err, Ok}
 use Prim.Native.Nat.{ℕ, ◌+◌}
 use native.Mathlib.Omega.{arith}
@@ -40,7 +41,7 @@ module _ (n : ℕ) where
   cut_tells full h start p limit room k (fails f) sv x = x
   cut_tells full h start p limit room k (adds bs t) sv x = pick_cases ScannedTells (leb (k + length bs) room) _ _ (λ y. cut_tells full h start p limit room (k + length bs) t sv x) (λ y. h)
   cut_tells full h start p limit room k (checks f t) sv x =
-      pick_cases ScannedTells (passes limit k) _ _ (λ y. rw sv.0 (fault_tells n 7 (omega arith) p)) (λ y. cut_tells full h start p limit room k t sv.1 x)
+      pick_cases ScannedTells (passes limit k) _ _ (λ y. rw sv.0 (fault_tells n StringTooLong p)) (λ y. cut_tells full h start p limit room k t sv.1 x)
 
   -- how it ends
   abbrev pub OutcomeSmall : Outcome → Type 0

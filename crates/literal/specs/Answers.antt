@@ -1,4 +1,5 @@
 -- What a scan of a literal answers with: document 01, "for 1, 2, 3 and 9 offset and position are those given and nothing is on record".
+use Rattle.lex_error.specs.declared.LexError.{LexError}
 use Rattle.std.specs.Prelude.{ℕ, Bool}
 use Rattle.basis.specs.Types.{Code}
 use Rattle.position.specs.declared.Position.{Position}
@@ -26,8 +27,8 @@ abbrev pub refusal : Fault → Cursor → Terminator → Refusal
 refusal f here r = record { fault = f; cursor = here; on_record = r }
 
 -- 1, 2, 3 or 9: all as it was given
-abbrev pub as_given : ℕ → Cursor → Refusal
-as_given n start = refusal (fault n start.place) start nothing
+abbrev pub as_given : LexError → Cursor → Refusal
+as_given e start = refusal (fault e start.place) start nothing
 
 -- 9
 abbrev pub full : Cursor → Refusal

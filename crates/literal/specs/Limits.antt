@@ -2,7 +2,7 @@
 use Rattle.literal.specs.Scans.{accepted_as}
 use Rattle.std.specs.Prelude.{ℕ, ◌+◌, ◌≤◌, ◌<◌, true, false, List, ◌⊎◌, ◌≡◌, length, Err}
 use Rattle.position.specs.declared.Position.{Position}
-use Rattle.fault.specs.Faults.{string_too_long, Own}
+use Rattle.fault.specs.Faults.{string_too_long, Own, number}
 use Rattle.literal.specs.Trace.{Trace, ends, fails, adds, checks, bytes, final, good, passes}
 use Rattle.literal.specs.Cut.{cut, answer}
 use Rattle.literal.specs.Told.{refusal_number}
@@ -39,7 +39,7 @@ UncutWithin =
 abbrev pub RecursWhole : Type 0
 RecursWhole =
     (full : Refusal) (l m r s : ℕ) (start : Position) (t : Trace)
-    → full.fault.number ≡ 9
+    → number full.fault ≡ 9
     → FairTrace start t
     → Looser l m
     → r ≤ s
@@ -75,7 +75,7 @@ UncutElse =
 abbrev pub CutAtTheFirst : Type 0
 CutAtTheFirst =
     (full : Refusal) (limit room : ℕ) (start : Position) (t : Trace) (f : Refusal)
-    → full.fault.number ≡ 9
+    → number full.fault ≡ 9
     → FairTrace start t
     → cut full limit room 0 t ≡ Err f
-    → (f.fault.number ≡ 7 → Cuts full limit room 0 t string_limit f) × (f.fault.number ≡ 9 → Cuts full limit room 0 t literal_room f)
+    → (number f.fault ≡ 7 → Cuts full limit room 0 t string_limit f) × (number f.fault ≡ 9 → Cuts full limit room 0 t literal_room f)

@@ -1,4 +1,5 @@
 -- Document 01's number and values for each case of a scan's answer.
+use Rattle.lex_error.specs.Numbers.{number_of}
 use Rattle.std.specs.Prelude.{ℕ, Bool, false, Err, Ok}
 use Rattle.position.specs.declared.Position.{Position}
 use Rattle.position.specs.Place.{none}
@@ -34,7 +35,7 @@ told (Ok (e, n)) =
     }
 told (Err f) =
     record {
-      number = f.fault.number;
+      number = number_of f.fault.error;
       place = f.fault.place;
       about = f.fault.part;
       cursor = f.cursor;
@@ -47,4 +48,4 @@ told (Err f) =
 -- the number alone
 unfoldable pub refusal_number : Scanned → ℕ
 refusal_number (Ok (e, n)) = 0
-refusal_number (Err f) = f.fault.number
+refusal_number (Err f) = number_of f.fault.error

@@ -7,6 +7,7 @@ ghost use Rattle.literal.specs.Answers.{as_given, too_long};
 
 use chars::cursor::Cursor;
 use fault::Fault;
+use lex_error::LexError;
 use position::Position;
 
 // The terminator on record, for a literal that is still open: a character, and how often it stands.
@@ -43,11 +44,11 @@ pub type Scanned = Result<(End, usize), Refusal>;
 
 impl Refusal {
     // 1, 2, 3 or 9: offset and position are those given, and nothing is on record.
-    pub fn as_given(number: u8, start: Cursor) -> Refusal
-        ensures { result ≡ as_given number start }
+    pub fn as_given(error: LexError, start: Cursor) -> Refusal
+        ensures { result ≡ as_given error start }
     {
         Refusal {
-            fault: Fault::at(number, start.place),
+            fault: Fault::at(error, start.place),
             cursor: start,
             on_record: Terminator::NONE,
         }
@@ -58,7 +59,7 @@ impl Refusal {
         ensures { result ≡ too_long start here on_record }
     {
         Refusal {
-            fault: Fault::at(Fault::STRING_TOO_LONG, start),
+            fault: Fault::at(LexError::StringTooLong, start),
             cursor: here,
             on_record,
         }

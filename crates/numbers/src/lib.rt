@@ -7,6 +7,7 @@ ghost use Rattle.lent.specs.Written.{written_of, left_of};
 ghost use Rattle.numbers.specs.Spell.{spell, spelled};
 
 use lent::Written;
+use lex_error::LexError;
 
 // Puts a number in at an index, in so many bytes, the lowest first, and answers the index after them. Where they have no
 // room nothing is written, and the index given is answered.
@@ -35,7 +36,7 @@ pub fn write_row(row: &[u64], width: usize, out: &mut [u8]) -> Written
         return Ok(0);
     }
     if out.len() / width < row.len() {
-        return Err(9);
+        return Err(LexError::NoLiteralRoom);
     }
     let mut at = 0;
     for n in row {

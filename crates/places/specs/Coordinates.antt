@@ -1,6 +1,7 @@
 -- The numbers of a place as the Rust gives and takes them: `new`, `line` and `position` of types/position.rs.
 use Rattle.std.specs.Prelude.{ℕ, eqb, Err, None, Ok, Some}
 use Rattle.basis.specs.Pick.{pick}
+use Rattle.lex_error.specs.declared.LexError.TheVariants.{BadArgument}
 use Rattle.position.specs.Place.{given, line_number, column_number, is_none}
 use Rattle.position.specs.declared.Position.{Position}
 use Rattle.places.specs.Answer.{Placed}
@@ -8,7 +9,7 @@ use Rattle.places.specs.Answer.{Coordinate}
 
 -- the Rust's `new`: line 0 is 3
 unfoldable pub new_of : ℕ → ℕ → Placed
-new_of l c = pick (eqb l 0) (Err 3) (Ok (given l c))
+new_of l c = pick (eqb l 0) (Err BadArgument) (Ok (given l c))
 
 -- a number of a place: NONE has none
 unfoldable pub numbered : Position → ℕ → Coordinate

@@ -1,5 +1,6 @@
 -- Document 01's number and values for each case of a place that may be refused.
 use Rattle.std.specs.Prelude.{ℕ, Err, Ok}
+use Rattle.lex_error.specs.Numbers.{number_of}
 use Rattle.position.specs.Place.{none}
 use Rattle.position.specs.declared.Position.{Position}
 use Rattle.places.specs.Answer.{Placed}
@@ -12,4 +13,4 @@ pub record Told : Type 0 where
 -- the values of each case; a refusal has no place
 unfoldable pub told : Placed → Told
 told (Ok p) = record { number = 0; place = p }
-told (Err n) = record { number = n; place = none }
+told (Err e) = record { number = number_of e; place = none }

@@ -2,18 +2,18 @@
 ghost use Rattle.std.specs.Prelude.{◌≡◌};
 ghost use Rattle.places.specs.Coordinates.{new_of, numbered, line_option, position_option};
 
-use fault::Fault;
+use lex_error::LexError;
 use position::Position;
 
-// A place, or the number of the refusal.
-pub type Placed = Result<Position, u8>;
+// A place, or the refusal.
+pub type Placed = Result<Position, LexError>;
 
 // Where the Rust panics, on line 0, this is refused.
 pub fn new(line: u16, position: u16) -> Placed
     ensures { result ≡ new_of line position }
 {
     if line == 0 {
-        return Err(Fault::BAD_ARGUMENT);
+        return Err(LexError::BadArgument);
     }
     Ok(Position::given(line, position))
 }

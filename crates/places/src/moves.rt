@@ -3,7 +3,7 @@ ghost use Rattle.std.specs.Prelude.{◌≡◌};
 ghost use Rattle.places.specs.Moves.{moved, advance_of, rewind_of, new_line_of};
 
 use crate::coordinates::Placed;
-use fault::Fault;
+use lex_error::LexError;
 use position::Position;
 
 // A move, which no place on line 0 makes: the Rust refuses only NONE.
@@ -13,7 +13,7 @@ fn moved(p: Position, to: Position) -> Placed
     if p.is_on_line() {
         return Ok(to);
     }
-    Err(Fault::BAD_ARGUMENT)
+    Err(LexError::BadArgument)
 }
 
 pub fn advance(p: Position) -> Placed
@@ -26,7 +26,7 @@ pub fn rewind(p: Position) -> Placed
     ensures { result ≡ rewind_of p }
 {
     if p.column_number() == 0 {
-        return Err(Fault::BAD_ARGUMENT);
+        return Err(LexError::BadArgument);
     }
     moved(p, p.rewound())
 }

@@ -4,7 +4,7 @@ ghost use Rattle.position.specs.Place.{on_line};
 ghost use Rattle.places.specs.Sum.{sum_on, sum_lines, sum_of};
 
 use crate::coordinates::Placed;
-use fault::Fault;
+use lex_error::LexError;
 use position::Position;
 
 // The sum of two columns, on the line that the sum has.
@@ -17,7 +17,7 @@ fn sum_on(line: u16, c: u16, d: u16) -> Placed
     }
     match c.checked_add(d) {
         Some(column) => Ok(Position::given(line, column - 1)),
-        None => Err(Fault::BAD_SUM),
+        None => Err(LexError::BadSum),
     }
 }
 
@@ -29,7 +29,7 @@ fn sum_lines(p: Position, rhs: Position) -> Placed
 {
     match p.line_number().checked_add(rhs.line_number()) {
         Some(line) => sum_on(line - 1, p.column_number(), rhs.column_number()),
-        None => Err(Fault::BAD_SUM),
+        None => Err(LexError::BadSum),
     }
 }
 
@@ -43,6 +43,6 @@ pub fn sum(p: Position, rhs: Position) -> Placed
     } else if p.is_on_line() && rhs.is_on_line() {
         sum_lines(p, rhs)
     } else {
-        Err(Fault::BAD_SUM)
+        Err(LexError::BadSum)
     }
 }

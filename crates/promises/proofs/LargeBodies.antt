@@ -1,4 +1,5 @@
 -- What the raw writer makes of bodies of millions of bytes. Assumes nothing.
+use Rattle.lex_error.specs.Numbers.{no_refusal}
 use Rattle.std.specs.Prelude.{Ok}
 use Prim.Native.Nat.{ℕ, zero, suc, ◌+◌, ◌*◌, ◌<◌}
 use native.Mathlib.Omega.{arith}
@@ -75,7 +76,7 @@ module _ (n : ℕ) where
   unfolding raw_literal_of
   size = literal_length (hashes_for body) body ∙ omega (arith, hashes, body_length)
 
-  accepts : n < 16777216 → text_of body ≡ 0
+  accepts : n < 16777216 → text_of body ≡ no_refusal
   unfolding text_of
   accepts h = rw (le-ltb 16777216 (length body) (omega (arith, body_length)), body_well)
 

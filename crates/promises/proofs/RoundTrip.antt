@@ -1,4 +1,5 @@
 -- Demand 2: the theorem of specs/RoundTrip.antt. Assumes nothing.
+use Rattle.lex_error.specs.Numbers.{no_refusal}
 use Rattle.literal.specs.Scans.{accepted_as}
 use Rattle.std.specs.Prelude.{Ok}
 use Prim.Native.Nat.{ℕ, zero, suc, ◌+◌, ◌≤◌, ◌<◌}
@@ -70,7 +71,7 @@ module _ (body before after : List ℕ) where
     fits : at < length text
     fits = omega (arith, length-append (before ++ raw_literal_of body) after, length-append before (raw_literal_of body), length_literal body)
 
-    lets_in : enters_of text (cursor at start) ≡ 0
+    lets_in : enters_of text (cursor at start) ≡ no_refusal
     lets_in =
         let b : get_or text at 0 < 0x80 = rw (get_or-drop at text 0 0, add-zero at) at (rw (← stands) at (begins (most_after_quote body) (body ++ (quote ∷ replicate (hashes_for body) hash ++ after)))) in
         on_line_lem text (cursor at start) (let_in text at (text_good text short formed) (boundary_low text at fits b)) online
@@ -90,7 +91,7 @@ module _ (body before after : List ℕ) where
     unfolding parse_trace hashes_for read_of
     opened =
         let k : 1 + most_after_quote body ≡ suc (most_after_quote body) = omega arith in
-        reads_on as_source (enters_of text (cursor at start)) text (cursor at start) 0 lets_in
+        reads_on as_source text (cursor at start) 0 lets_in
         ∙ ap (λ (x : Opened). behind_opening as_source text start x) (is_fresh text (cursor at start) refl
         ∙ opens text start (most_after_quote body) 1 at start (body ++ (quote ∷ replicate (hashes_for body) hash ++ after)) stands
         ∙ ap (λ (n : ℕ). opened_as n (cursor from (columns (hashes_for body) start))) k)
@@ -128,12 +129,12 @@ module _ (body before after : List ℕ) where
 -- what the writer makes is the literal
 module _ (body lent : List ℕ) (formed : well body ≡ true) (short : length body ≤ 16777216) (room : length (raw_literal_of body) ≤ length lent) where
   answered : raw_write_of body lent ≡ Ok (length (raw_literal_of body))
-  answered = let n = length_literal body in sym (done body lent (sym (text_good body short formed)) refl refl (omega arith)) ∙ ap Ok (sym n)
+  answered = let n = length_literal body in sym (done body lent (text_good body short formed) refl (omega arith)) ∙ ap Ok (sym n)
 
   makes : made (raw_write_of body lent) (raw_left_of body lent) ≡ raw_literal_of body
   makes =
       let n = length_literal body in
-      rw (answered, ← written body lent (sym (text_good body short formed)) refl refl (omega arith) refl) (take_at (raw_literal_of body) (drop (length (raw_literal_of body)) lent) (length (raw_literal_of body)) refl)
+      rw (answered, ← written body lent (text_good body short formed) refl (omega arith) refl) (take_at (raw_literal_of body) (drop (length (raw_literal_of body)) lent) (length (raw_literal_of body)) refl)
 
 pub round_trip : RoundTrip
 round_trip body before after lent buffer start limit formed online admitted room within space =

@@ -1,4 +1,6 @@
 -- The theorem ShutsOutRuns of specs/Limits.antt, by two literals. Assumes nothing.
+use Rattle.entry.specs.Kinds as Kind
+use Rattle.lex_error.specs.Numbers.{no_refusal}
 use Rattle.std.specs.Prelude.{Err}
 use Prim.Native.Nat.{ℕ}
 use native.Mathlib.Omega.{arith}
@@ -48,7 +50,7 @@ room n = bounds 0 2 n
 
 -- the door lets a script in
 abbrev Enters : List ℕ → Type 0
-Enters script = refuses_of script empty ≡ 0
+Enters script = refuses_of script empty ≡ no_refusal
 
 enters : Enters a × Enters (a ++ b) × Enters (a ++ c)
 unfolding word text_of refuses_of look well_from well Book.few Book.runs_on Book.all_fit Book.rising Book.good Book.check_of Contents.u16_at Contents.word_count Contents.words_from Contents.words Contents.enough
@@ -57,10 +59,10 @@ enters = (refl, refl, refl)
 one : OneLiteral a empty
 unfolding run_reading
 one = record {
-  token = token 5 (cursor 0 (place 1 1)) (cursor 3 (place 1 3));
+  token = token Kind.string (cursor 0 (place 1 1)) (cursor 3 (place 1 3));
   trace = literal_trace document01 a opens_string (cursor 1 (place 1 1));
   end = place 1 3;
-  is_read = rw (eq-eqb (refuses_of a empty) 0 enters.0) worked.one_literal;
+  is_read = rw enters.0 worked.one_literal;
 }
 
 module _ (runs : Runs) (demand : Meets runs) where

@@ -1,4 +1,5 @@
 -- How an example of document 01 is put to the definitions, and what it says of their answer.
+use Rattle.lex_error.specs.Numbers.{number_of}
 use Rattle.std.specs.Prelude.{ℕ, List, eqb, length, take, replicate, Err, Ok}
 use Prim.Native.String.{String}
 use Rattle.basis.specs.Pick.{pick}
@@ -69,17 +70,17 @@ of_literal t x (Ok (e, n)) =
     let m = used t e.cursor.at in
     let p = e.cursor.place in
     pick (eqb e.on_record.times 0) (closes bs m p) (opens bs m p)
-of_literal t x (Err f) = refused f.fault.number f.fault.place
+of_literal t x (Err f) = refused (number_of f.fault.error) f.fault.place
 
 -- the answer of a comment's scan
 abbrev pub of_comment : List ℕ → Commented → Answer
 of_comment t (Ok c) = leaves c.level (used t c.cursor.at) c.cursor.place
-of_comment t (Err f) = refused f.number f.place
+of_comment t (Err f) = refused (number_of f.error) f.place
 
 -- the answer of the writer: the literal at the front of what was lent
 abbrev pub of_writer : Written → List ℕ → Answer
 of_writer (Ok n) memory = makes (take n memory)
-of_writer (Err k) memory = refused k none
+of_writer (Err e) memory = refused (number_of e) none
 
 -- a raw literal entered after its first `#`, at 1:1
 abbrev pub after_hash : String → Answer

@@ -1,41 +1,41 @@
 -- Demand 3 for raw literals: a limit and a room only cut the reading. Assumes nothing.
 use Rattle.literal.specs.Scans.{accepted_as}
-use Rattle.std.specs.Prelude.{Err}
+use Rattle.std.specs.Prelude.{Ok, Err}
+use Rattle.lex_error.specs.Numbers.{Asked}
+use Rattle.fault.specs.Faults.{number}
 use Prim.Native.Nat.{ℕ, ◌≤◌}
 use native.Mathlib.Omega.{arith}
 use mathlib.Core.Bool.{false}
 use mathlib.Core.List.{List}
 use mathlib.Core.Path.{◌≡◌, refl}
-use lib.Dec.{eqb}
 use lib.ListN.{length}
-use Rattle.basis.proofs.Cases.{pick_cases}
 use Rattle.position.specs.declared.Position.{Position}
 use Rattle.chars.specs.Cursors.{cursor}
 use Rattle.chars.specs.declared.cursor.Cursor.{Cursor}
-use Rattle.literal.specs.Trace.{fails, bytes, final, good, passes}
+use Rattle.literal.specs.Trace.{bytes, final, good, passes}
 use Rattle.literal.specs.Cut.{answer}
 use Rattle.literal.specs.Limits.{Looser, FairTrace, string_limit, literal_room, Cuts}
 use Rattle.literal.specs.Told.{refusal_number}
 use Rattle.literal.specs.declared.End.{End}
 use Rattle.literal.specs.declared.Refusal.{Refusal}
 use Rattle.literal.proofs.Limits.{accepted_whole, uncut_within, recurs_whole, cut_at_the_first}
-use Rattle.literal.specs.Answers.{as_given, full}
-use Rattle.raw.specs.Raw.{read_of, Newlines}
+use Rattle.literal.specs.Answers.{full}
+use Rattle.raw.specs.Raw.{Newlines}
 use Rattle.raw.proofs.scan.Limits.{read_fair_trace}
 use Rattle.raw.specs.Entries.{raw_trace, enters_of, resumes_of, parse_trace, parse_of, resume_trace, resume_of}
-use Rattle.raw.proofs.Refusals.{enters_small, resumes_small}
+use Rattle.raw.proofs.Refusals.{Early, enters_early, resumes_early}
 
 module _ (mode : Newlines) (t : List ℕ) where
-  trace_fair_trace : (n : ℕ) (start : Cursor) (k : ℕ) → n ≤ 3 → FairTrace start.place (raw_trace mode n t start k)
+  trace_fair_trace : (a : Asked) (start : Cursor) (k : ℕ) → Early a → FairTrace start.place (raw_trace mode a t start k)
   unfolding raw_trace
-  trace_fair_trace n start k h =
-      pick_cases (FairTrace start.place) (eqb n 0) (read_of mode t start k) (fails (as_given n start)) (λ q. read_fair_trace mode t start k) (λ q. (λ p. omega arith, λ p. omega arith, λ p. omega arith))
+  trace_fair_trace (Ok u) start k h = read_fair_trace mode t start k
+  trace_fair_trace (Err e) start k h = (λ p. omega (arith, h), λ p. omega (arith, h), λ p. omega (arith, h))
 
   module _ (at : ℕ) (p : Position) where
     -- entered after the first hash
     pub parse_fair_trace : FairTrace p (parse_trace mode t at p)
     unfolding parse_trace
-    parse_fair_trace = trace_fair_trace (enters_of t (cursor at p)) (cursor at p) 0 (enters_small t (cursor at p))
+    parse_fair_trace = trace_fair_trace (enters_of t (cursor at p)) (cursor at p) 0 (enters_early t (cursor at p))
 
     -- an accepted scan's length is its body's and within the room, and it ends as the unlimited rules say
     pub parse_accepted : (limit room : ℕ) (e : End) (n : ℕ) → parse_of mode t at p limit room ≡ accepted_as e n
@@ -57,8 +57,8 @@ module _ (mode : Newlines) (t : List ℕ) where
 
     -- 7 comes at the first test that finds more than the limit, 9 at the first step that passes the room, and only there
     pub parse_cut_first : (limit room : ℕ) (f : Refusal) → parse_of mode t at p limit room ≡ Err f
-        → (f.fault.number ≡ 7 → Cuts (full (cursor at p)) limit room 0 (parse_trace mode t at p) string_limit f)
-        × (f.fault.number ≡ 9 → Cuts (full (cursor at p)) limit room 0 (parse_trace mode t at p) literal_room f)
+        → (number f.fault ≡ 7 → Cuts (full (cursor at p)) limit room 0 (parse_trace mode t at p) string_limit f)
+        × (number f.fault ≡ 9 → Cuts (full (cursor at p)) limit room 0 (parse_trace mode t at p) literal_room f)
     unfolding parse_of
     parse_cut_first limit room f h = cut_at_the_first (full (cursor at p)) limit room p (parse_trace mode t at p) f refl parse_fair_trace h
 
@@ -66,7 +66,7 @@ module _ (mode : Newlines) (t : List ℕ) where
     module _ (k : ℕ) where
       pub resume_fair_trace : FairTrace p (resume_trace mode t at p k)
       unfolding resume_trace
-      resume_fair_trace = trace_fair_trace (resumes_of t (cursor at p) k) (cursor at p) k (resumes_small t (cursor at p) k)
+      resume_fair_trace = trace_fair_trace (resumes_of t (cursor at p) k) (cursor at p) k (resumes_early t (cursor at p) k)
 
       pub resume_accepted : (limit room : ℕ) (e : End) (n : ℕ) → resume_of mode t at p k limit room ≡ accepted_as e n
           → (n ≡ length (bytes (resume_trace mode t at p k))) × (n ≤ room) × (final (resume_trace mode t at p k) ≡ good e)
@@ -84,7 +84,7 @@ module _ (mode : Newlines) (t : List ℕ) where
       resume_recurs l m r s loose more x y = recurs_whole (full (cursor at p)) l m r s p (resume_trace mode t at p k) refl resume_fair_trace loose more x y
 
       pub resume_cut_first : (limit room : ℕ) (f : Refusal) → resume_of mode t at p k limit room ≡ Err f
-          → (f.fault.number ≡ 7 → Cuts (full (cursor at p)) limit room 0 (resume_trace mode t at p k) string_limit f)
-          × (f.fault.number ≡ 9 → Cuts (full (cursor at p)) limit room 0 (resume_trace mode t at p k) literal_room f)
+          → (number f.fault ≡ 7 → Cuts (full (cursor at p)) limit room 0 (resume_trace mode t at p k) string_limit f)
+          × (number f.fault ≡ 9 → Cuts (full (cursor at p)) limit room 0 (resume_trace mode t at p k) literal_room f)
       unfolding resume_of
       resume_cut_first limit room f h = cut_at_the_first (full (cursor at p)) limit room p (resume_trace mode t at p k) f refl resume_fair_trace h

@@ -1,4 +1,5 @@
 -- The table of returns in specs/Entries.antt, row by row; then limits and rooms, and the arguments that are refused. Assumes nothing.
+use Rattle.lex_error.specs.declared.LexError.TheVariants.{BadArgument, NoLiteralRoom, NotUtf8, StringTooLong}
 use Rattle.std.specs.Prelude.{Err}
 use Prim.Native.Nat.{ℕ, zero, suc}
 use mathlib.Core.List.{List, [], ◌∷◌}
@@ -83,23 +84,23 @@ abbrev within : ℕ → ℕ → List ℕ → Scanned
 within limit room t = resume_of as_source t 0 (given 1 1) 1 limit room
 
 pub cut-returns :
-    (within 1 1 (0xC3 ∷ 0xA9 ∷ []) ≡ Err (refusal (fault 9 (given 1 1)) (cursor 0 (given 1 1)) nothing))
-    × (within 1 2 (0xC3 ∷ 0xA9 ∷ []) ≡ Err (refusal (fault 7 (given 1 1)) (cursor 2 (given 1 2)) (hashes_of 1)))
+    (within 1 1 (0xC3 ∷ 0xA9 ∷ []) ≡ Err (refusal (fault NoLiteralRoom (given 1 1)) (cursor 0 (given 1 1)) nothing))
+    × (within 1 2 (0xC3 ∷ 0xA9 ∷ []) ≡ Err (refusal (fault StringTooLong (given 1 1)) (cursor 2 (given 1 2)) (hashes_of 1)))
     × (within 0 0 (word "\"") ≡ accepted_as (raw_end (cursor 1 (given 1 2)) (given 1 2) (hashes_of 1)) 0)
-    × (within 0 1 (word "\"a") ≡ Err (refusal (fault 9 (given 1 1)) (cursor 0 (given 1 1)) nothing))
+    × (within 0 1 (word "\"a") ≡ Err (refusal (fault NoLiteralRoom (given 1 1)) (cursor 0 (given 1 1)) nothing))
     × (within 3 3 (word "abc\"#") ≡ accepted_as (raw_end (cursor 5 (given 1 6)) (given 1 2) nothing) 3)
-    × (within 2 3 (word "abc\"#") ≡ Err (refusal (fault 7 (given 1 1)) (cursor 3 (given 1 4)) (hashes_of 1)))
+    × (within 2 3 (word "abc\"#") ≡ Err (refusal (fault StringTooLong (given 1 1)) (cursor 3 (given 1 4)) (hashes_of 1)))
 unfolding the_places the_characters the_readings the_raw_rules the_raw_entries
 cut-returns = (refl, refl, refl, refl, refl, refl)
 
 -- the arguments that are refused: a text that is not UTF-8, an offset past the end and one inside a character, line 0, and the hash counts next to the range
 pub refused-returns :
-    Fails (scans 0 (0x80 ∷ [])) (fault 1 (given 1 1)) 0 (given 1 1)
-    × Fails (parse_trace as_source [] 1 (given 1 1)) (fault 3 (given 1 1)) 1 (given 1 1)
-    × Fails (parse_trace as_source (0xC3 ∷ 0xA9 ∷ []) 1 (given 1 1)) (fault 3 (given 1 1)) 1 (given 1 1)
-    × Fails (parse_trace as_source [] 0 (given 0 1)) (fault 3 (given 0 1)) 0 (given 0 1)
-    × Fails (resume_trace as_source [] 0 (given 1 1) 0) (fault 3 (given 1 1)) 0 (given 1 1)
-    × Fails (resume_trace as_source [] 0 (given 1 1) 16777217) (fault 3 (given 1 1)) 0 (given 1 1)
+    Fails (scans 0 (0x80 ∷ [])) (fault NotUtf8 (given 1 1)) 0 (given 1 1)
+    × Fails (parse_trace as_source [] 1 (given 1 1)) (fault BadArgument (given 1 1)) 1 (given 1 1)
+    × Fails (parse_trace as_source (0xC3 ∷ 0xA9 ∷ []) 1 (given 1 1)) (fault BadArgument (given 1 1)) 1 (given 1 1)
+    × Fails (parse_trace as_source [] 0 (given 0 1)) (fault BadArgument (given 0 1)) 0 (given 0 1)
+    × Fails (resume_trace as_source [] 0 (given 1 1) 0) (fault BadArgument (given 1 1)) 0 (given 1 1)
+    × Fails (resume_trace as_source [] 0 (given 1 1) 16777217) (fault BadArgument (given 1 1)) 0 (given 1 1)
     × Gives (resume_trace as_source [] 0 (given 1 1) 16777216) [] 0 (given 1 1) none (hashes_of 16777216)
 unfolding the_places the_characters the_readings the_raw_rules the_raw_entries
 refused-returns = (refl, refl, refl, refl, refl, refl, (refl, refl))

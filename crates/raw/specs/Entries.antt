@@ -27,7 +27,9 @@
 --   1 | LF x"#               | LF x            | 4      | 2:3      | 2:0   | nothing    from 1:3
 --
 -- Each row is proved in proofs/Returns.antt.
-use Rattle.std.specs.Prelude.{ℕ, eqb}
+use Rattle.lex_error.specs.declared.LexError.TheVariants.{BadArgument}
+use Rattle.lex_error.specs.Numbers.{Asked, no_refusal, asked_then, on_asked}
+use Rattle.std.specs.Prelude.{ℕ, Err}
 use Rattle.basis.specs.Types.{Offset, Text}
 use Rattle.basis.specs.Pick.{pick}
 use Rattle.position.specs.declared.Position.{Position}
@@ -42,17 +44,17 @@ use Rattle.literal.specs.Scans.{Scanned}
 use Rattle.literal.specs.Answers.{as_given, full}
 use Rattle.raw.specs.Raw.{read_of, Newlines}
 
--- the reading, or the refusal that the arguments are given where its number is not 0
-unfoldable pub raw_trace : Newlines → ℕ → Text → Cursor → ℕ → Trace
-raw_trace mode number t start k = pick (eqb number 0) (read_of mode t start k) (fails (as_given number start))
+-- the reading, or the refusal that the arguments are given
+unfoldable pub raw_trace : Newlines → Asked → Text → Cursor → ℕ → Trace
+raw_trace mode asked t start k = on_asked asked (read_of mode t start k) (λ e. fails (as_given e start))
 
--- what the arguments refuse: 2, 1, 3 at the door; 3 for a place on no line; 0 for nothing
-unfoldable pub enters_of : Text → Cursor → ℕ
-enters_of t start = pick (eqb (door_of t start.at) 0) (pick (on_line start.place) 0 3) (door_of t start.at)
+-- what the arguments refuse: 2, 1, 3 at the door; 3 for a place on no line
+unfoldable pub enters_of : Text → Cursor → Asked
+enters_of t start = asked_then (door_of t start.at) (pick (on_line start.place) no_refusal (Err BadArgument))
 
 -- the same for a hash count given, which is 1 to 16,777,216
-unfoldable pub resumes_of : Text → Cursor → ℕ → ℕ
-resumes_of t start k = pick (eqb (enters_of t start) 0) (pick (within (1 ‥ 16777216) k) 0 3) (enters_of t start)
+unfoldable pub resumes_of : Text → Cursor → ℕ → Asked
+resumes_of t start k = asked_then (enters_of t start) (pick (within (1 ‥ 16777216) k) no_refusal (Err BadArgument))
 
 -- entered after the first hash: the reading, and what a limit and a room leave of it
 unfoldable pub parse_trace : Newlines → Text → Offset → Position → Trace

@@ -1,17 +1,16 @@
 -- The opening of a raw literal: document 01, "Raw literal", and the Rust's `parse_raw_string_literal` up to where the body begins.
-use Rattle.std.specs.Prelude.{ℕ, ◌+◌, List, [], ◌∷◌, eqb, Err, Ok}
+use Rattle.std.specs.Prelude.{ℕ, ◌+◌, List, [], ◌∷◌, eqb, Err}
 use Rattle.basis.specs.Types.{Offset, Text}
 use Rattle.basis.specs.Pick.{pick}
 use Rattle.position.specs.declared.Position.{Position}
-use Rattle.position.specs.Place.{none, advanced}
+use Rattle.position.specs.Place.{advanced}
 use Rattle.utf8.specs.Table.{Ch}
 use Rattle.classes.specs.Marks.{quote, hash}
 use Rattle.chars.specs.Cursors.{cursor}
 use Rattle.chars.specs.Scan.{Turn, go, stop, Rule, run_at}
 use Rattle.chars.specs.declared.cursor.Cursor.{Cursor}
-use Rattle.fault.specs.Faults.{part, fault, unterminated_string, unexpected_input}
+use Rattle.fault.specs.Faults.{part, unterminated_string, unexpected_input}
 use Rattle.literal.specs.Answers.{nothing, refusal}
-use Rattle.literal.specs.declared.Refusal.{Refusal}
 use Rattle.raw.specs.Answer.{Opened, opened_as}
 
 -- where a scan of the opening stands: it has counted so many hashes, and is at a place

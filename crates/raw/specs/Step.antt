@@ -1,6 +1,6 @@
 -- What the inner functions of the scan answer, and what a turn of the body tells.
 use Rattle.utf8.specs.Looks.{char_found}
-use Rattle.std.specs.Prelude.{ℕ, ◌+◌, ◌-◌, ◌≤◌, List, [], ◌∷◌, ◌≡◌, eqb, ltb, length}
+use Rattle.std.specs.Prelude.{ℕ, ◌+◌, ◌-◌, ◌≤◌, ◌<◌, List, [], ◌∷◌, ◌≡◌, eqb, ltb, length}
 use Rattle.basis.specs.Types.{Code}
 use Rattle.basis.specs.Pick.{pick, both}
 use Rattle.position.specs.declared.Position.{Position}
@@ -15,6 +15,7 @@ use Rattle.literal.specs.declared.Refusal.{Refusal}
 use Rattle.classes.specs.Marks.{quote, hash}
 use Rattle.literal.specs.Answers.{too_long}
 use Rattle.raw.specs.Raw.{as_source, hashes_of, BodyState, body_state, placed, body_rule, Newlines}
+use Rattle.raw.specs.declared.scan.Body.{Body}
 use Rattle.raw.specs.declared.scan.Lost.{Lost}
 use Rattle.raw.specs.declared.scan.Stand.{Stand}
 
@@ -47,6 +48,10 @@ pub record BodyPasses (t : List ℕ) (k limit room held : ℕ) (s r : Stand) : T
   pub same : (start : Position) (full : Refusal)
       → cut full limit room s.n (run_at (body_rule as_source start k) t s.here.at (body_state held s.here.place s.first))
       ≡ cut full limit room r.n (run_at (body_rule as_source start k) t r.here.at (body_state held r.here.place r.first))
+
+-- passed outside an attempt to close, with a byte at least
+abbrev pub Passes : Body → Stand → Stand → Type 0
+Passes b s r = (s.n < r.n) × BodyPasses b.text.now b.k b.limit b.room 0 s r
 
 -- how many bytes are held back behind a character: a quote begins or restarts an attempt to close, a hash goes on with it, and any other character ends it
 unfoldable pub held_behind : Code → ℕ → ℕ

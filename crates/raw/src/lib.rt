@@ -6,52 +6,44 @@ pub mod scan;
 pub mod write;
 
 ghost use Rattle.std.specs.Prelude.{◌≡◌, ◌≤◌, length};
+ghost use Rattle.lex_error.specs.Numbers.{no_refusal};
 ghost use Rattle.literal.specs.Cut.{cut, wrote};
 ghost use Rattle.literal.specs.Answers.{full};
 ghost use Rattle.raw.specs.Raw.{as_source};
 ghost use Rattle.raw.specs.Entries.{raw_trace, resumes_of, parse_trace, parse_of, resume_trace, resume_of};
 
 use chars::cursor::Cursor;
-use fault::Fault;
+use lex_error::LexError;
 use literal::{Refusal, Scanned};
 use position::Position;
 
-// What the arguments of a scan refuse, by number; 0 for nothing.
-fn asks(text: &[u8], start: Cursor, hashes: usize) -> u8
+// What the arguments of a scan refuse.
+fn asks(text: &[u8], start: Cursor, hashes: usize) -> Result<(), LexError>
     ensures { result ≡ resumes_of text.now start hashes }
 {
-    let number = door::door(text, start.at);
-    if number != 0 {
-        return number;
+    door::door(text, start.at)?;
+    if start.place.is_on_line() && 1 <= hashes && hashes <= 16_777_216 {
+        Ok(())
+    } else {
+        Err(LexError::BadArgument)
     }
-    let place = start.place;
-    if place.is_on_line() {
-        if hashes < 1 {
-            return Fault::BAD_ARGUMENT;
-        }
-        if 16_777_216 < hashes {
-            return Fault::BAD_ARGUMENT;
-        }
-        return 0;
-    }
-    Fault::BAD_ARGUMENT
 }
 
-// Refuses with the number that the arguments were given; where that is 0, measures, and writes only what is accepted.
+// Refuses what the arguments were refused with; where they were not, measures, and writes only what is accepted.
 fn read(
     text: &[u8],
     start: Cursor,
-    number: u8,
+    asked: Result<(), LexError>,
     hashes: usize,
     limit: usize,
     out: &mut [u8],
 ) -> Scanned
-    requires { number ≡ 0 → start.at ≤ length text.now }
-    ensures value { result ≡ cut (full start) limit (length out.old) 0 (raw_trace as_source number text.now start hashes) }
-    ensures out_after { out.new ≡ wrote result (raw_trace as_source number text.now start hashes) out.old }
+    requires { asked ≡ no_refusal → start.at ≤ length text.now }
+    ensures value { result ≡ cut (full start) limit (length out.old) 0 (raw_trace as_source asked text.now start hashes) }
+    ensures out_after { out.new ≡ wrote result (raw_trace as_source asked text.now start hashes) out.old }
 {
-    if number != 0 {
-        return Err(Refusal::as_given(number, start));
+    if let Err(error) = asked {
+        return Err(Refusal::as_given(error, start));
     }
     let (end, len) = scan::measure(text, start, hashes, limit, out.len())?;
     write::write(text, start, hashes, len, out);
@@ -71,8 +63,7 @@ pub fn parse_raw_string_literal(
     ensures out_after { out.new ≡ wrote result (parse_trace as_source text.now at place) out.old }
 {
     let start = Cursor { at, place };
-    let number = asks(text, start, 1);
-    read(text, start, number, 0, limit, out)
+    read(text, start, asks(text, start, 1), 0, limit, out)
 }
 
 // The same from anywhere in the body of a literal that so many hashes close.
@@ -88,6 +79,5 @@ pub fn resume_raw_string_literal(
     ensures out_after { out.new ≡ wrote result (resume_trace as_source text.now at place hashes) out.old }
 {
     let start = Cursor { at, place };
-    let number = asks(text, start, hashes);
-    read(text, start, number, hashes, limit, out)
+    read(text, start, asks(text, start, hashes), hashes, limit, out)
 }

@@ -7,6 +7,7 @@ ghost use Rattle.raw.specs.Opening.{opened_of};
 use chars::cursor::Cursor;
 use classes::marks::{HASH, QUOTE};
 use fault::{Fault, Part};
+use lex_error::LexError;
 use literal::{Refusal, Terminator};
 use position::Position;
 
@@ -14,11 +15,11 @@ use position::Position;
 pub type Opened = Result<(usize, Cursor), Refusal>;
 
 // A refusal before the body: nothing is on record yet.
-fn refuse(number: u8, place: Position, part: Part, cursor: Cursor) -> Opened
-    ensures { result ≡ Err (refusal (fault_in number place part) cursor nothing) }
+fn refuse(error: LexError, place: Position, part: Part, cursor: Cursor) -> Opened
+    ensures { result ≡ Err (refusal (fault_in error place part) cursor nothing) }
 {
     Err(Refusal {
-        fault: Fault::about(number, place, part),
+        fault: Fault::about(error, place, part),
         cursor,
         on_record: Terminator::NONE,
     })
@@ -37,26 +38,28 @@ pub(crate) fn open(text: &[u8], start: Cursor, hashes: usize) -> Opened
     let mut from = start;
     loop {
         let Some((c, next)) = from.eat_next_and_advance(text) else {
-            return refuse(Fault::UNTERMINATED_STRING, start.place, Part::NONE, from);
+            return refuse(LexError::UnterminatedString, start.place, Part::NONE, from);
         };
-        if c == QUOTE {
-            return Ok((k, next));
+        match c {
+            QUOTE => return Ok((k, next)),
+            HASH => {
+                k += 1;
+                from = next;
+            }
+            _ => {
+                let at = next.at;
+                let part = Part {
+                    at: from.at,
+                    len: at - from.at,
+                };
+                let place = from.place;
+                return refuse(
+                    LexError::UnexpectedInput,
+                    start.place,
+                    part,
+                    Cursor { at, place },
+                );
+            }
         }
-        if c != HASH {
-            let at = next.at;
-            let place = from.place;
-            let part = Part {
-                at: from.at,
-                len: at - from.at,
-            };
-            return refuse(
-                Fault::UNEXPECTED_INPUT,
-                start.place,
-                part,
-                Cursor { at, place },
-            );
-        }
-        k += 1;
-        from = next;
     }
 }

@@ -1,53 +1,49 @@
 // The scan of a raw string literal: the Rust's `parse_raw_string_literal` with nothing written.
 ghost use Rattle.literal.specs.Scans.{accepted_as};
 ghost use Rattle.utf8.specs.Looks.{char_found};
-ghost use Rattle.std.specs.Prelude.{true, ◌≡◌, ℕ, ◌+◌, ◌≤◌, ◌<◌, length};
+ghost use Rattle.std.specs.Prelude.{true, false, IfSome, ◌≡◌, ℕ, ◌+◌, ◌≤◌, ◌<◌, length};
 ghost use Rattle.utf8.specs.Table.{look_at};
 ghost use Rattle.chars.specs.Stretch.{NextChar};
 ghost use Rattle.literal.specs.Cut.{cut};
-ghost use Rattle.classes.specs.Marks.{quote};
+ghost use Rattle.classes.specs.Marks.{quote, lf};
+ghost use Rattle.literal.specs.Trace.{passes};
 ghost use Rattle.literal.specs.Answers.{full};
 ghost use Rattle.raw.specs.Raw.{as_source, raw_end, body_of, read_of};
-ghost use Rattle.raw.specs.Step.{held_behind, cursor_behind, Failing, Hashes, LostAt, BodyPasses};
+ghost use Rattle.raw.specs.Step.{held_behind, cursor_behind, Failing, Hashes, LostAt, BodyPasses, Passes};
 
 use crate::open;
 use chars::cursor::Cursor;
 use classes::marks::{HASH, LF, QUOTE};
-use fault::Fault;
+use lex_error::LexError;
 use literal::{End, Refusal, Scanned, Terminator};
 use position::Position;
 
 // How many bytes are held back behind a character, a quote and the hashes after it, while an attempt to close lasts: a quote
 // begins or restarts one, a hash goes on with it, and any other character ends it.
+#[tactic(auto, unfolding(crate::specs::Step::held_behind))]
 fn holds(c: u32, held: usize) -> usize
     requires { held < 0xFFFFFFFFFFFFFFFF }
     ensures { result ≡ held_behind c held }
 {
-    if c == QUOTE {
-        return 1;
+    match c {
+        QUOTE => 1,
+        HASH if 0 < held => held + 1,
+        _ => 0,
     }
-    if held == 0 {
-        return 0;
-    }
-    if c == HASH {
-        return held + 1;
-    }
-    0
 }
 
 // The cursor behind a character that does not close. A line feed that ends an attempt to close starts no line.
+#[tactic(auto, unfolding(crate::specs::Raw::placed))]
 fn behind(c: u32, held: usize, next: Cursor) -> Cursor
     ensures { result ≡ cursor_behind as_source c held next }
 {
-    if c == LF {
-        if held == 0 {
-            let at = next.at;
-            let place = next.place.lined();
-            return Cursor { at, place };
-        }
-        return next;
+    if c == LF && held == 0 {
+        let at = next.at;
+        let place = next.place.lined();
+        Cursor { at, place }
+    } else {
+        next
     }
-    next
 }
 
 // An accepted body of so many bytes.
@@ -63,6 +59,46 @@ fn accept(cursor: Cursor, first: Position, on_record: Terminator, len: usize) ->
     Ok((end, len))
 }
 
+// How many hashes stand one behind the other from an offset on, counted up to k.
+fn hashes_at(text: &[u8], from: usize, k: usize) -> usize
+    requires { from ≤ length text.now }
+    ensures { Hashes text.now from result }
+{
+    let mut n = 0;
+    while n < k && from + n < text.len() && text[from + n] == b'#' {
+        n += 1;
+    }
+    n
+}
+
+// How many bytes and columns a quote that closes nothing is passed with: alone with the hashes behind it where another quote,
+// which begins the attempt to close anew, stands behind them; else with the character that ends the attempt too.
+#[derive(Clone, Copy)]
+struct Lost {
+    width: usize,
+    columns: usize,
+}
+
+// What a quote with so many hashes behind it is passed with, by what stands at the offset behind them; nothing where neither
+// another quote nor a character that ends the attempt does.
+fn lost_at(text: &[u8], at: usize, hashes: usize) -> Option<Lost>
+    requires { hashes < at }
+    ensures { IfSome result (LostAt text.now hashes at) }
+{
+    let (c, w) = utf8::look_at(text, at)?;
+    match c {
+        QUOTE => Some(Lost {
+            width: hashes + 1,
+            columns: hashes + 1,
+        }),
+        HASH => None,
+        _ => Some(Lost {
+            width: hashes + w + 1,
+            columns: hashes + 2,
+        }),
+    }
+}
+
 // Where a scan of the body stands: the cursor, the first place, and the length of the body.
 #[derive(Clone, Copy)]
 struct Stand {
@@ -71,233 +107,169 @@ struct Stand {
     n: usize,
 }
 
-// Outside an attempt to close, passes all that is neither a quote nor a line feed, as far as no limit and no room stops it.
-fn pass_plain(text: &[u8], limit: usize, room: usize, s: Stand) -> Stand
-    requires { s.n ≤ room }
-    ensures { (k : ℕ) → BodyPasses text.now k limit room 0 s result }
-{
-    let from = s.here.at;
-    let place = s.here.place;
-    let most = literal::most(limit, room, s.n);
-    let passed = chars::passing::pass(text, from, most, QUOTE, LF, LF, LF, LF);
-    if passed.count == 0 {
-        return s;
-    }
-    Stand {
-        here: Cursor {
-            at: passed.at,
-            place: place.advanced_by(passed.count),
-        },
-        first: s.first.or_else(place.advanced()),
-        n: s.n + (passed.at - from),
-    }
-}
-
-// The width of the character at an offset, if it ends an attempt to close; else 0.
-fn failing(text: &[u8], at: usize) -> usize
-    ensures { (result ≡ 0 → ⊥) → NextChar text.now Failing at (length text.now) result }
-{
-    if text.len() <= at {
-        return 0;
-    }
-    let c = text[at] as u32;
-    if c < 0x80 {
-        if c == QUOTE {
-            return 0;
-        }
-        if c == HASH {
-            return 0;
-        }
-        return 1;
-    }
-    utf8::width(text, at, c)
-}
-
-// Whether a quote stands at an offset.
-fn is_quote(text: &[u8], at: usize) -> bool
-    ensures { result ≡ true → look_at text.now at ≡ char_found quote 1 }
-{
-    if at < text.len() {
-        return text[at] as u32 == QUOTE;
-    }
-    false
-}
-
-// How many hashes stand one behind the other from an offset on, counted up to k.
-fn hashes_at(text: &[u8], from: usize, k: usize) -> usize
-    ensures { Hashes text.now from result }
-{
-    let mut at = from;
-    let mut n = 0;
-    while n < k {
-        if text.len() <= at {
-            return n;
-        }
-        if text[at] as u32 != HASH {
-            return n;
-        }
-        at += 1;
-        n += 1;
-    }
-    n
-}
-
-// How many bytes and columns a quote that closes nothing is passed with: alone with the hashes behind it where another quote,
-// which begins the attempt to close anew, stands behind them; else with the character that ends the attempt too. It has no byte
-// where nothing is passed.
+// The body of a literal that k hashes close, in its text, and what stops it: a limit and a room.
 #[derive(Clone, Copy)]
-struct Lost {
-    width: usize,
-    columns: usize,
+struct Body<'a> {
+    text: &'a [u8],
+    k: usize,
+    limit: usize,
+    room: usize,
 }
 
-// What a quote with so many hashes behind it is passed with, by what stands at the offset behind them.
-fn lost_at(text: &[u8], at: usize, hashes: usize) -> Lost
-    requires { hashes < at }
-    ensures { (result.width ≡ 0 → ⊥) → LostAt text.now hashes at result }
-{
-    if is_quote(text, at) {
-        return Lost {
-            width: hashes + 1,
-            columns: hashes + 1,
-        };
+impl Body<'_> {
+    // How many bytes may be passed.
+    fn most(self, s: Stand) -> usize
+        requires { s.n ≤ self.room }
+        ensures { (s.n + result ≤ self.entry.room) × (0 < result → passes self.entry.limit (s.n + result) ≡ false) }
+    {
+        literal::most(self.limit, self.room, s.n)
     }
-    let w = failing(text, at);
-    if w == 0 {
-        return Lost {
-            width: 0,
-            columns: 0,
-        };
-    }
-    Lost {
-        width: hashes + w + 1,
-        columns: hashes + 2,
-    }
-}
 
-// Passes a quote with the hashes behind it, too few to close: a line feed that ends the attempt to close starts no line.
-fn pass_attempt(text: &[u8], hashes: usize, limit: usize, room: usize, s: Stand) -> Stand
-    requires { (s.n ≤ room) × (look_at text.now s.here.at ≡ char_found quote 1) × Hashes text.now (s.here.at + 1) hashes }
-    ensures { (k : ℕ) → hashes < k → BodyPasses text.now k limit room 0 s result }
-{
-    let at = s.here.at;
-    let place = s.here.place;
-    let lost = lost_at(text, at + 1 + hashes, hashes);
-    let width = lost.width;
-    if width == 0 {
-        return s;
-    }
-    if literal::most(limit, room, s.n) < width {
-        return s;
-    }
-    Stand {
-        here: Cursor {
-            at: at + width,
-            place: place.advanced_by(lost.columns),
-        },
-        first: s.first.or_else(place.advanced()),
-        n: s.n + width,
-    }
-}
-
-// Passes a quote that closes nothing in a literal that k hashes close. Mostly no hash stands behind it, which is tried first.
-fn pass_quote(text: &[u8], k: usize, limit: usize, room: usize, s: Stand) -> Stand
-    requires { (1 ≤ k) × (s.n ≤ room) × (look_at text.now s.here.at ≡ char_found quote 1) }
-    ensures { BodyPasses text.now k limit room 0 s result }
-{
-    let at = s.here.at;
-    let alone = pass_attempt(text, 0, limit, room, s);
-    if alone.here.at == at {
-        let hashes = hashes_at(text, at + 1, k);
-        if k <= hashes {
-            return s;
+    // Outside an attempt to close, passes all that is neither a quote nor a line feed, as far as no limit and no room stops it.
+    fn pass_plain(self, s: Stand) -> Option<Stand>
+        requires { s.n ≤ self.room }
+        ensures { IfSome result (Passes self.entry s) }
+    {
+        let from = s.here.at;
+        let place = s.here.place;
+        let passed = chars::passing::pass(self.text, from, self.most(s), QUOTE, LF, LF, LF, LF);
+        if passed.count == 0 {
+            return None;
         }
-        return pass_attempt(text, hashes, limit, room, s);
+        Some(Stand {
+            here: Cursor {
+                at: passed.at,
+                place: place.advanced_by(passed.count),
+            },
+            first: s.first.or_else(place.advanced()),
+            n: s.n + (passed.at - from),
+        })
     }
-    alone
-}
 
-// Passes a line feed, or a quote that closes nothing.
-fn pass_one(text: &[u8], k: usize, limit: usize, room: usize, s: Stand) -> Stand
-    requires { (1 ≤ k) × (s.n ≤ room) }
-    ensures { BodyPasses text.now k limit room 0 s result }
-{
-    let at = s.here.at;
-    if text.len() <= at {
-        return s;
+    // Passes a line feed.
+    fn pass_line(self, s: Stand) -> Option<Stand>
+        requires { (s.n ≤ self.room) × (look_at self.text.now s.here.at ≡ char_found lf 1) }
+        ensures { IfSome result (Passes self.entry s) }
+    {
+        if self.most(s) == 0 {
+            return None;
+        }
+        let at = s.here.at + 1;
+        let place = s.here.place.advanced().lined();
+        Some(Stand {
+            here: Cursor { at, place },
+            first: s.first.or_else(place),
+            n: s.n + 1,
+        })
     }
-    let c = text[at] as u32;
-    if c == QUOTE {
-        return pass_quote(text, k, limit, room, s);
-    }
-    if c != LF {
-        return s;
-    }
-    if literal::most(limit, room, s.n) == 0 {
-        return s;
-    }
-    let place = s.here.place.advanced().lined();
-    Stand {
-        here: Cursor { at: at + 1, place },
-        first: s.first.or_else(place),
-        n: s.n + 1,
-    }
-}
 
-// Outside an attempt to close, passes what is kept, as long as there is any and no limit and no room stops it.
-fn ahead(text: &[u8], k: usize, limit: usize, room: usize, held: usize, from: Stand) -> Stand
-    requires { (1 ≤ k) × (from.n ≤ room) }
-    ensures { BodyPasses text.now k limit room held from result }
-{
-    if 0 < held {
-        return from;
+    // Passes a quote with the hashes behind it, too few to close: a line feed that ends the attempt to close starts no line.
+    fn pass_attempt(self, hashes: usize, s: Stand) -> Option<Stand>
+        requires { (s.n ≤ self.room) × (hashes < self.k)
+            × (look_at self.text.now s.here.at ≡ char_found quote 1)
+            × Hashes self.text.now (s.here.at + 1) hashes }
+        ensures { IfSome result (Passes self.entry s) }
+    {
+        let at = s.here.at;
+        let place = s.here.place;
+        let lost = lost_at(self.text, at + 1 + hashes, hashes)?;
+        if self.most(s) < lost.width {
+            return None;
+        }
+        Some(Stand {
+            here: Cursor {
+                at: at + lost.width,
+                place: place.advanced_by(lost.columns),
+            },
+            first: s.first.or_else(place.advanced()),
+            n: s.n + lost.width,
+        })
     }
-    let mut s = from;
-    loop {
-        let kept = pass_one(text, k, limit, room, s);
-        if kept.here.at == s.here.at {
-            let next = pass_plain(text, limit, room, kept);
-            if next.here.at == kept.here.at {
-                return next;
-            }
-            s = next;
+
+    // Passes a quote that closes nothing. Mostly no hash stands behind it, which is tried first.
+    fn pass_quote(self, s: Stand) -> Option<Stand>
+        requires { (1 ≤ self.k) × (s.n ≤ self.room) × (look_at self.text.now s.here.at ≡ char_found quote 1) }
+        ensures { IfSome result (Passes self.entry s) }
+    {
+        let alone = self.pass_attempt(0, s);
+        if alone.is_some() {
+            return alone;
+        }
+        let hashes = hashes_at(self.text, s.here.at + 1, self.k);
+        if hashes < self.k {
+            self.pass_attempt(hashes, s)
         } else {
-            s = kept;
+            None
         }
     }
-}
 
-// The length of the body that begins at `from` and that k hashes close, and how it ends, within a limit and a room. The
-// literal's start is where its refusals are reported. A raw body is a part of the text: all from its beginning to here, but
-// for what is held back.
-fn body_of(text: &[u8], start: Cursor, from: Cursor, k: usize, limit: usize, room: usize) -> Scanned
-    requires { 1 ≤ k }
-    ensures { result ≡ cut (full start) limit room 0 (body_of as_source text.now start.place k from) }
-{
-    let on_record = Terminator { c: HASH, times: k };
-    let mut here = from;
-    let mut first = Position::NONE;
-    let mut held = 0;
-    let mut n = 0;
-    loop {
-        let s = ahead(text, k, limit, room, held, Stand { here, first, n });
-        here = s.here;
-        first = s.first;
-        let Some((c, next)) = here.eat_next_and_advance(text) else {
-            return accept(here, first, on_record, s.n);
+    // Passes a quote that closes nothing, a line feed, or all up to the next of them.
+    fn pass(self, s: Stand) -> Option<Stand>
+        requires { (1 ≤ self.k) × (s.n ≤ self.room) }
+        ensures { IfSome result (Passes self.entry s) }
+    {
+        let at = s.here.at;
+        if self.text.len() <= at {
+            return None;
+        }
+        match self.text[at] {
+            b'"' => self.pass_quote(s),
+            b'\n' => self.pass_line(s),
+            _ => self.pass_plain(s),
+        }
+    }
+
+    // Outside an attempt to close, passes what is kept, as long as there is any and no limit and no room stops it.
+    fn ahead(self, held: usize, from: Stand) -> Stand
+        requires { (1 ≤ self.k) × (from.n ≤ self.room) }
+        ensures { BodyPasses self.entry.text.now self.entry.k self.entry.limit self.entry.room held from result }
+    {
+        let mut s = from;
+        if held == 0 {
+            while let Some(next) = self.pass(s) {
+                s = next;
+            }
+        }
+        s
+    }
+
+    // The length of the body, which begins at `from`, and how it ends. The literal's start is where its refusals are reported.
+    // A raw body is a part of the text: all from its beginning to here, but for what is held back.
+    fn read(self, start: Cursor, from: Cursor) -> Scanned
+        requires { 1 ≤ self.k }
+        ensures { result ≡ cut (full start) self.entry.limit self.entry.room 0 (body_of as_source self.entry.text.now start.place self.entry.k from) }
+    {
+        let on_record = Terminator {
+            c: HASH,
+            times: self.k,
         };
-        here = behind(c, held, next);
-        held = holds(c, held);
-        if k < held {
-            return accept(next, first, Terminator::NONE, s.n);
-        }
-        first = first.or_else(here.place);
-        n = next.at - from.at - held;
-        if room < n {
-            return Err(Refusal::as_given(Fault::NO_LITERAL_ROOM, start));
-        }
-        if literal::is_over(limit, n) {
-            return Err(Refusal::too_long(start.place, here, on_record));
+        let mut s = Stand {
+            here: from,
+            first: Position::NONE,
+            n: 0,
+        };
+        let mut held = 0;
+        loop {
+            s = self.ahead(held, s);
+            let Some((c, next)) = s.here.eat_next_and_advance(self.text) else {
+                return accept(s.here, s.first, on_record, s.n);
+            };
+            let here = behind(c, held, next);
+            held = holds(c, held);
+            if self.k < held {
+                return accept(next, s.first, Terminator::NONE, s.n);
+            }
+            s = Stand {
+                here,
+                first: s.first.or_else(here.place),
+                n: next.at - from.at - held,
+            };
+            if self.room < s.n {
+                return Err(Refusal::as_given(LexError::NoLiteralRoom, start));
+            }
+            if literal::is_over(self.limit, s.n) {
+                return Err(Refusal::too_long(start.place, here, on_record));
+            }
         }
     }
 }
@@ -308,5 +280,11 @@ pub fn measure(text: &[u8], start: Cursor, hashes: usize, limit: usize, room: us
     ensures { result ≡ cut (full start) limit room 0 (read_of as_source text.now start hashes) }
 {
     let (k, from) = open::open(text, start, hashes)?;
-    body_of(text, start, from, k, limit, room)
+    let body = Body {
+        text,
+        k,
+        limit,
+        room,
+    };
+    body.read(start, from)
 }

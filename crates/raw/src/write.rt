@@ -12,9 +12,7 @@ pub fn write(text: &[u8], start: Cursor, hashes: usize, len: usize, out: &mut [u
     requires { (start.at ≤ length text.now) × (len ≡ length (bytes (read_of as_source text.now start hashes))) × (len ≤ length out.old) }
     ensures { out.new ≡ sets out.old 0 (bytes (read_of as_source text.now start hashes)) }
 {
-    let Ok((_, from)) = open::open(text, start, hashes) else {
-        return;
-    };
-    let at = from.at;
-    lent::copy(&text[at..at + len], out, 0);
+    if let Ok((_, from)) = open::open(text, start, hashes) {
+        lent::copy(&text[from.at..from.at + len], out, 0);
+    }
 }

@@ -1,4 +1,5 @@
 -- Bodies and what is written of them, and the refusals in their order. Assumes nothing.
+use Rattle.lex_error.specs.declared.LexError.TheVariants.{NoLiteralRoom, NotUtf8}
 use Rattle.std.specs.Prelude.{Err, Ok}
 use mathlib.Core.List.{[], ◌∷◌, ◌++◌}
 use mathlib.Core.Path.{◌≡◌, refl}
@@ -25,8 +26,8 @@ literals = (refl, refl, refl, refl, refl, refl, refl, refl, refl)
 
 -- what is not UTF-8 is 1 before 9; the rest of a larger room stays; a room one byte short is 9, and untouched
 pub answers :
-    (raw_write_of (0x80 ∷ []) [] ≡ Err 1)
-    × (raw_write_of [] (replicate 3 7) ≡ Err 9)
+    (raw_write_of (0x80 ∷ []) [] ≡ Err NotUtf8)
+    × (raw_write_of [] (replicate 3 7) ≡ Err NoLiteralRoom)
     × (raw_left_of [] (replicate 3 7) ≡ replicate 3 7)
     × (raw_write_of [] (replicate 4 7) ≡ Ok 4)
     × (raw_left_of [] (replicate 6 7) ≡ word "#\"\"#" ++ replicate 2 7)

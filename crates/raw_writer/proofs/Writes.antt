@@ -1,13 +1,15 @@
 -- The writer's answer and what it leaves of what was lent, for each way out. Assumes nothing.
+use Rattle.lex_error.specs.declared.LexError.{LexError}
+use Rattle.lex_error.specs.declared.LexError.TheVariants.{NoLiteralRoom}
+use Rattle.lex_error.specs.Numbers.{Asked, no_refusal, asked_then}
 use Rattle.std.specs.Prelude.{Err, Ok}
 use Prim.Native.Nat.{ℕ, ◌+◌, ◌*◌, ◌≤◌, ◌<◌}
 use native.Mathlib.Omega.{arith}
 use mathlib.Core.List.{List, ◌++◌, append_assoc}
 use mathlib.Core.Path.{◌≡◌, refl, sym, ap, ◌∙◌}
-use lib.Dec.{ltb, eqb}
+use lib.Dec.{ltb}
 use lib.ListN.{length, replicate, length-append, length-replicate}
 use lib.Seq.{length-sets}
-use borrow.Author.Tests.{eq-eqb, ne_eqb, eqb-true}
 use Rattle.basis.specs.Store.{stored, after, over, Stored}
 use Rattle.basis.proofs.Cases.{pick_cases}
 use Rattle.basis.proofs.Stores.{whole, and_then, sets_front}
@@ -21,8 +23,8 @@ use Rattle.classes.specs.Marks.{quote, hash}
 use Rattle.door.specs.Door.{text_of}
 
 -- a body that nothing refuses is short enough
-pub is_short : (body : List ℕ) {n : ℕ} → n ≡ text_of body → n ≡ 0 → length body ≤ 16777216
-is_short body e z = (text_admitted body (sym e ∙ z)).short
+pub is_short : (body : List ℕ) → text_of body ≡ no_refusal → length body ≤ 16777216
+is_short body z = (text_admitted body z).short
 
 -- ---- the literal
 pub length_literal : (body : List ℕ) → length (raw_literal_of body) ≡ 2 * hashes_for body + 2 + length body
@@ -30,28 +32,28 @@ unfolding raw_literal_of
 length_literal body = simp (length-append, length-replicate) (omega arith)
 
 -- ---- the answers
-module _ (body memory : List ℕ) {n : ℕ} (e : n ≡ text_of body) where
-  module _ (z : n ≡ 0 → ⊥) where
-    pub refused : Err n ≡ raw_write_of body memory
+module _ (body memory : List ℕ) where
+  module _ {e : LexError} (n : text_of body ≡ Err e) where
+    pub refused : Err e ≡ raw_write_of body memory
     unfolding raw_write_of
-    refused = rw (← e, ne_eqb n 0 z)
+    refused = rw n refl
 
     pub untouched : memory ≡ raw_left_of body memory
     unfolding raw_left_of
-    untouched = rw (← e, ne_eqb n 0 z)
+    untouched = rw n refl
 
-  module _ (z : n ≡ 0) {k : ℕ} (q : k ≡ hashes_for body) where
+  module _ (z : text_of body ≡ no_refusal) {k : ℕ} (q : k ≡ hashes_for body) where
     measured : 2 * k + 2 + length body ≡ length (raw_literal_of body)
     measured = rw q (sym (length_literal body))
 
     module _ (h : length memory < 2 * k + 2 + length body) where
-      pub no_room : Err 9 ≡ raw_write_of body memory
+      pub no_room : Err NoLiteralRoom ≡ raw_write_of body memory
       unfolding raw_write_of
-      no_room = rw (← e, eq-eqb n 0 z) (sym (lent.refused (raw_literal_of body) memory (rw measured at h)))
+      no_room = rw z (sym (lent.refused (raw_literal_of body) memory (rw measured at h)))
 
       pub left_alone : memory ≡ raw_left_of body memory
       unfolding raw_left_of
-      left_alone = rw (← e, eq-eqb n 0 z) (sym (lent.untouched (raw_literal_of body) memory (rw measured at h)))
+      left_alone = rw z (sym (lent.untouched (raw_literal_of body) memory (rw measured at h)))
 
     module _ (h : 2 * k + 2 + length body ≤ length memory) where
       pub has_room : length (raw_literal_of body) ≤ length memory
@@ -59,11 +61,11 @@ module _ (body memory : List ℕ) {n : ℕ} (e : n ≡ text_of body) where
 
       pub done : Ok (2 * k + 2 + length body) ≡ raw_write_of body memory
       unfolding raw_write_of
-      done = rw (← e, eq-eqb n 0 z, measured) (sym (lent.done (raw_literal_of body) memory has_room))
+      done = rw (z, measured) (sym (lent.done (raw_literal_of body) memory has_room))
 
       pub written : {l : List ℕ} → l ≡ over (raw_literal_of body) memory → l ≡ raw_left_of body memory
       unfolding raw_left_of
-      written g = rw (← e, eq-eqb n 0 z) (g ∙ sym (lent.written (raw_literal_of body) memory has_room))
+      written g = rw z (g ∙ sym (lent.written (raw_literal_of body) memory has_room))
 
 -- ---- the stores
 -- one store more behind those before it
@@ -97,17 +99,15 @@ module _ (body l₀ : List ℕ) {k : ℕ} (q : k ≡ hashes_for body) (h : lengt
       all.memory ∙ rw (q, parts body) (sets_front l₀ (raw_literal_of body) h)
 
 -- ---- how long a literal that is written can be
-not_done {ℓ} : {A : Type ℓ} {m n : ℕ} → ◌≡◌ {A = Written} (Err m) (Ok n) → A
-not_done e = absurd (let z : ◌≡◌ {A = ℕ} 0 1 = cc in omega arith)
+module _ (body memory : List ℕ) {n : ℕ} where
+  asked_short : (a : Asked) → text_of body ≡ a → ◌≡◌ {A = Written} (asked_then a (written_of (raw_literal_of body) memory)) (Ok n) → n ≤ 50331652
+  unfolding written_of
+  asked_short (Err f) p = λ e. cc
+  asked_short (Ok u) p =
+      pick_cases (λ (w : Written). w ≡ Ok n → n ≤ 50331652) (ltb (length memory) (length (raw_literal_of body))) _ _
+      (λ r e. cc)
+      (λ r e. let q : length (raw_literal_of body) ≡ n = cc in omega (arith, q, length_literal body, hashes_short body, is_short body p))
 
-done_is : {m n : ℕ} → ◌≡◌ {A = Written} (Ok m) (Ok n) → m ≡ n
-done_is e = cc
-
-pub written_short : (body memory : List ℕ) {n : ℕ} → raw_write_of body memory ≡ Ok n → n ≤ 50331652
-unfolding raw_write_of written_of
-written_short body memory {n} =
-    pick_cases (λ (w : Written). w ≡ Ok n → n ≤ 50331652) (eqb (text_of body) 0) _ _
-    (λ q. pick_cases (λ (w : Written). w ≡ Ok n → n ≤ 50331652) (ltb (length memory) (length (raw_literal_of body))) _ _
-    (λ r e. not_done e)
-    (λ r e. omega (arith, done_is e, length_literal body, hashes_short body, is_short body refl (eqb-true (text_of body) 0 q))))
-    (λ q e. not_done e)
+  pub written_short : raw_write_of body memory ≡ Ok n → n ≤ 50331652
+  unfolding raw_write_of
+  written_short = asked_short (text_of body) refl

@@ -1,8 +1,9 @@
 -- The raw writer: document 01, "Raw writer".
-use Rattle.std.specs.Prelude.{ℕ, suc, ◌≤◌, ◌<◌, max, List, [], ◌∷◌, ◌++◌, ◌≡◌, eqb, replicate, Err}
+use Rattle.std.specs.Prelude.{ℕ, suc, ◌≤◌, ◌<◌, max, List, [], ◌∷◌, ◌++◌, ◌≡◌, eqb, replicate}
 use Rattle.basis.specs.Types.{Text, Bytes}
 use Rattle.basis.specs.Pick.{pick}
 use Rattle.classes.specs.Marks.{quote, hash}
+use Rattle.lex_error.specs.Numbers.{asked_then, on_asked}
 use Rattle.door.specs.Door.{text_of}
 use Rattle.lent.specs.Written.{written_of, left_of}
 use Rattle.lent.specs.Answer.{Written}
@@ -27,11 +28,11 @@ raw_literal_of body = replicate (hashes_for body) hash ++ quote ∷ body ++ quot
 
 -- the answer: the literal's length, or 2, 1, 9 in that order
 unfoldable pub raw_write_of : Text → Bytes → Written
-raw_write_of body memory = pick (eqb (text_of body) 0) (written_of (raw_literal_of body) memory) (Err (text_of body))
+raw_write_of body memory = asked_then (text_of body) (written_of (raw_literal_of body) memory)
 
 -- the lent memory then: the literal and the old rest, or untouched where refused
 unfoldable pub raw_left_of : Text → Bytes → Bytes
-raw_left_of body memory = pick (eqb (text_of body) 0) (left_of (raw_literal_of body) memory) memory
+raw_left_of body memory = on_asked (text_of body) (left_of (raw_literal_of body) memory) (λ e. memory)
 
 -- ---- document 01: "The least k of at least 1 for which the body has no quote followed by k hashes"
 -- a body has a quote followed by k hashes

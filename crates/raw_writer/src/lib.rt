@@ -6,8 +6,8 @@ ghost use Rattle.basis.specs.Store.{over};
 ghost use Rattle.raw_writer.specs.Step.{next_held};
 ghost use Rattle.raw_writer.specs.Writer.{hashes_for, raw_literal_of, raw_write_of, raw_left_of};
 
-use fault::Fault;
 use lent::Written;
+use lex_error::LexError;
 
 // A quote begins a run, a hash goes on with one, and any other byte ends it. The run's length then.
 #[tactic(auto, unfolding(crate::specs::Step::next_held))]
@@ -55,14 +55,11 @@ pub fn raw_write(body: &[u8], out: &mut [u8]) -> Written
     ensures value { result ≡ raw_write_of body.now out.old }
     ensures out_after { out.new ≡ raw_left_of body.now out.old }
 {
-    let number = door::text(body);
-    if number != 0 {
-        return Err(number);
-    }
+    door::text(body)?;
     let hashes = hashes_for(body);
     let len = 2 * hashes + 2 + body.len();
     if out.len() < len {
-        return Err(Fault::NO_LITERAL_ROOM);
+        return Err(LexError::NoLiteralRoom);
     }
     write(body, hashes, out);
     Ok(len)

@@ -1,4 +1,5 @@
 -- The numbers of what a run lists, and of how it ends, are u32, over any reading of a script of n bytes that tells small numbers. Assumes nothing.
+use Rattle.lex_error.specs.declared.LexError.TheVariants.{NoLiteralRoom, NoTokenRoom}
 use Rattle.std.specs.Prelude.{Err, Ok}
 use Prim.Native.Nat.{ℕ, ◌+◌, ◌-◌, ◌≤◌}
 use native.Mathlib.Omega.{arith}
@@ -21,6 +22,7 @@ use Rattle.reading.specs.Reading.{Token, Reading, finishes, halts, spoils, lists
 use Rattle.literal.specs.Answers.{full}
 use Rattle.reading.specs.CutRun.{scanned, cut_run}
 use Rattle.reading.specs.declared.Bounds.{Bounds}
+use Rattle.entry.specs.Kinds.{kind_number}
 use Rattle.entry.specs.Entries.{numbers_of, laid_out, U32s}
 use Rattle.reading.specs.Limits.{Fair}
 use Rattle.reading.proofs.Limits.{on_scan_lem}
@@ -28,7 +30,7 @@ use Rattle.reading.proofs.Limits.{on_scan_lem}
 module _ (n : ℕ) where
   -- a token's kind, its place, and where it stands in the script
   pub record TokenSmall (k : Token) : Type 0 where
-    pub kind : k.kind ≤ 11
+    pub kind : kind_number k.kind ≤ 11
     pub place : Small k.start.place
     pub starts : k.start.at ≤ n
     pub ends : k.end.at ≤ n
@@ -54,7 +56,7 @@ module _ (n : ℕ) where
     unfolding laid_out entries
     ended_fits used e h l = (tt, h)
 
-    more_fits : (used : ℕ) (k : Kept) (l : Left) → k.entry.kind ≤ 11 → Small k.entry.place → (used + length k.bytes ≤ m → (k.entry.at ≤ 4294967295) × (k.entry.len ≤ 4294967295))
+    more_fits : (used : ℕ) (k : Kept) (l : Left) → kind_number k.entry.kind ≤ 11 → Small k.entry.place → (used + length k.bytes ≤ m → (k.entry.at ≤ 4294967295) × (k.entry.len ≤ 4294967295))
         → Fitting (used + length k.bytes) l → Fitting used (more k l)
     unfolding laid_out numbers_of entries literal_bytes
     more_fits used k l small p q ih h =
@@ -65,11 +67,11 @@ module _ (n : ℕ) where
 
     -- a literal that is refused
     scanned_tells : (used : ℕ) (s : Cursor) (t : Trace) → Small s.place → FairTrace s.place t → Traced n t → ScannedTells n (scanned b used s t)
-    scanned_tells used s t p sv h = cut_tells n (full s) (fault_tells n 9 (omega arith) p) s.place p b.limit (b.literals - used) 0 t sv h
+    scanned_tells used s t p sv h = cut_tells n (full s) (fault_tells n NoLiteralRoom p) s.place p b.limit (b.literals - used) 0 t sv h
 
     -- no entry is left
     no_entry : (used : ℕ) (p : Position) → Small p → Fitting used (nothing_more (Err (no_token_room p)))
-    no_entry used p h = ended_fits used (Err (no_token_room p)) (fault_tells n 10 (omega arith) h)
+    no_entry used p h = ended_fits used (Err (no_token_room p)) (fault_tells n NoTokenRoom h)
 
     pub cut_fits_u32 : (i used : ℕ) (r : Reading) → Fair r → Readable r → Fitting used (cut_run b i used r)
     unfolding cut_run

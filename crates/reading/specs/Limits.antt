@@ -2,7 +2,7 @@
 use Rattle.std.specs.Prelude.{ℕ, ◌+◌, ◌-◌, ◌≤◌, List, [], ◌∷◌, ◌++◌, ◌⊎◌, ◌≡◌, length, Err}
 use Rattle.position.specs.declared.Position.{Position}
 use Rattle.fault.specs.declared.Fault.{Fault}
-use Rattle.fault.specs.Faults.{string_too_long, no_literal_room, no_token_room, Own}
+use Rattle.fault.specs.Faults.{string_too_long, no_literal_room, no_token_room, Own, number}
 use Rattle.chars.specs.declared.cursor.Cursor.{Cursor}
 use Rattle.literal.specs.declared.End.{End}
 use Rattle.literal.specs.declared.Refusal.{Refusal}
@@ -36,7 +36,7 @@ EndsOwn l = (f : Fault) → l.ending ≡ Err f → Own f
 
 -- a fault that a limit or a room causes: 7, 9 or 10
 abbrev pub Caused : Fault → Type 0
-Caused f = (f.number ≡ 7) ⊎ (f.number ≡ 9) ⊎ (f.number ≡ 10)
+Caused f = (number f ≡ 7) ⊎ (number f ≡ 9) ⊎ (number f ≡ 10)
 
 -- ---- the token that passes
 -- document 01's refusal for a token that passes a bound, at the token's start: 7, 9 or 10

@@ -1,4 +1,5 @@
 -- A script's reading by the unlimited rules, as a value: its tokens in their order, and how it ends. No limit and no room is in it.
+use Rattle.entry.specs.declared.kinds.Kind.{Kind}
 use Rattle.std.specs.Prelude.{ℕ, ◌+◌, ◌-◌, List, [], ◌∷◌, ◌++◌, length, Err, Ok}
 use Rattle.position.specs.declared.Position.{Position}
 use Rattle.fault.specs.declared.Fault.{Fault}
@@ -10,12 +11,12 @@ use Rattle.reading.specs.Endings.{Ending}
 
 -- a token: its kind; the cursor at its first character, a literal's opener too, whose place is the token's; the cursor behind its last; and the numbers that it stands for, which no token has yet
 pub record Token : Type 0 where
-  pub kind : ℕ
+  pub kind : Kind
   pub start : Cursor
   pub end : Cursor
   pub values : List ℕ
 
-abbrev pub token : ℕ → Cursor → Cursor → Token
+abbrev pub token : Kind → Cursor → Cursor → Token
 token k s e = record { kind = k; start = s; end = e; values = [] }
 
 -- the script is over at a place; or it stops with a fault that no literal brings; or with one that is found in or behind a literal, which begins at a cursor and is not listed; or a token is listed that is a part of the script; or a literal is read and listed

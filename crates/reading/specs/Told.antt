@@ -1,4 +1,5 @@
 -- What a run's ending tells, in document 01's numbers and values.
+use Rattle.lex_error.specs.Numbers.{number_of}
 use Rattle.std.specs.Prelude.{ℕ, Err, Ok}
 use Rattle.position.specs.declared.Position.{Position}
 use Rattle.fault.specs.declared.Part.{Part}
@@ -8,7 +9,7 @@ use Rattle.reading.specs.Endings.{Ending}
 -- the stop's number; 0 for the script's end
 unfoldable pub ending_number : Ending → ℕ
 ending_number (Ok p) = 0
-ending_number (Err f) = f.number
+ending_number (Err f) = number_of f.error
 
 -- the place that comes with it
 unfoldable pub ending_place : Ending → Position

@@ -105,6 +105,14 @@ fn identified(to: &impl Print, case: &Case) -> io::Result<()> {
     }
 }
 
+// The number of what a word book is refused with; 0 for nothing.
+fn book_check(to: &impl Print, book: &[u8]) -> io::Result<()> {
+    match book::check(book) {
+        Ok(()) => show::number(to, 0),
+        Err(error) => show::number(to, error.number() as usize),
+    }
+}
+
 // Writes what a book says of a word.
 fn reserved(to: &impl Print, r: Option<Reserved>) -> io::Result<()> {
     match r {
@@ -165,7 +173,7 @@ fn of_texts(to: &impl Print, case: &Case) -> io::Result<()> {
         b"look" => show::token(to, keywords::lookup_symbol_from_syntax(last)),
         b"doc " => show::truth(to, comment::doc::is_doc_comment(last)),
         b"vali" => show::truth(to, identifier::valid::is_valid_identifier(last)),
-        b"book" => show::number(to, book::check(last) as usize),
+        b"book" => book_check(to, last),
         b"rese" => reserved(to, book_lookup::lookup(case.before, last)),
         b"unch" => reserved(to, book_lookup::lookup_in(case.before, last)),
         b"find" => show::bytes(

@@ -34,7 +34,7 @@ fn ending(to: &impl Print, e: Ending) -> io::Result<()> {
             show::place(to, p)
         }
         Err(f) => {
-            show::labelled(to, "stop", f.number as usize)?;
+            show::labelled(to, "stop", f.error.number() as usize)?;
             show::place(to, f.place)?;
             show::part(to, f)
         }

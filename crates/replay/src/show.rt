@@ -1,8 +1,9 @@
 // How answers are written: each part with a space before it.
 use chars::cursor::Cursor;
-use entry::kinds;
+use entry::kinds::Kind;
 use fault::Fault;
 use lent::Written;
+use lex_error::LexError;
 use literal::{Scanned, Terminator};
 use places::coordinates::Placed;
 use position::Position;
@@ -69,14 +70,14 @@ fn record(to: &impl Print, t: Terminator) -> io::Result<()> {
     Ok(())
 }
 
-// A refusal's number.
-fn refused(to: &impl Print, n: u8) -> io::Result<()> {
-    print!(to; " refused {n}")
+// A refusal, by its number.
+fn refused(to: &impl Print, error: LexError) -> io::Result<()> {
+    print!(to; " refused {}", error.number())
 }
 
 // A fault: its number, the place reported, and the part of the script, offset and length.
 pub(crate) fn fault(to: &impl Print, f: Fault) -> io::Result<()> {
-    refused(to, f.number)?;
+    refused(to, f.error)?;
     word(to, "at")?;
     place(to, f.place)?;
     part(to, f)
@@ -88,12 +89,12 @@ pub(crate) fn part(to: &impl Print, f: Fault) -> io::Result<()> {
 }
 
 // The kind of an identifier.
-pub(crate) fn kind(to: &impl Print, kind: u8) -> io::Result<()> {
+pub(crate) fn kind(to: &impl Print, kind: Kind) -> io::Result<()> {
     let name = match kind {
-        kinds::NAME => "name",
-        kinds::KEYWORD => "keyword",
-        kinds::SYMBOL => "symbol",
-        kinds::RESERVED => "reserved",
+        Kind::Name => "name",
+        Kind::Keyword => "keyword",
+        Kind::Symbol => "symbol",
+        Kind::Reserved => "reserved",
         _ => "unknown",
     };
     word(to, name)
@@ -126,7 +127,7 @@ pub(crate) fn scanned(to: &impl Print, s: Scanned, out: &[u8]) -> io::Result<()>
 pub(crate) fn placed(to: &impl Print, p: Placed) -> io::Result<()> {
     match p {
         Ok(p) => place(to, p),
-        Err(n) => refused(to, n),
+        Err(error) => refused(to, error),
     }
 }
 
@@ -138,7 +139,7 @@ pub(crate) fn written(to: &impl Print, w: Written, out: &[u8]) -> io::Result<()>
             to.write_all(out.get(..n).unwrap_or_default())?;
             print!(to; "]")
         }
-        Err(n) => refused(to, n),
+        Err(error) => refused(to, error),
     }
 }
 

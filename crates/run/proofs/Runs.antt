@@ -1,4 +1,7 @@
 -- What a run has left when it is over, in the words of its contract. Assumes nothing.
+use Rattle.lex_error.specs.Numbers.{no_refusal}
+use Rattle.lex_error.specs.declared.LexError.{LexError}
+use Rattle.lex_error.specs.declared.LexError.TheVariants.{TextTooLong}
 use Rattle.std.specs.Prelude.{Err}
 use Prim.Native.Nat.{ℕ, zero, suc, ◌≤◌, ◌<◌}
 use native.Mathlib.Omega.{arith}
@@ -75,21 +78,19 @@ module _ (index : ℕ → ℕ) (laid : Entry → List ℕ) (rules : Rules) (t bo
 
 -- ---- the whole run
 module _ (rules : Rules) (b : Bounds) (t book : List ℕ) where
-  pub run_read : refuses_of t book ≡ 0 → run_of rules b t book ≡ cut_run b 0 0 (script_of rules t book)
+  pub run_read : refuses_of t book ≡ no_refusal → run_of rules b t book ≡ cut_run b 0 0 (script_of rules t book)
   unfolding run_of run_reading
-  run_read z = rw (eq-eqb (refuses_of t book) 0 z)
+  run_read z = rw z
 
-  pub run_refused : (refuses_of t book ≡ 0 → ⊥) → run_of rules b t book ≡ nothing_more (Err (fault (refuses_of t book) start))
+  pub run_refused : {e : LexError} → refuses_of t book ≡ Err e → run_of rules b t book ≡ nothing_more (Err (fault e start))
   unfolding run_of run_reading cut_run
-  run_refused n = rw (ne_eqb (refuses_of t book) 0 n)
+  run_refused n = rw n
 
   -- a script that is too long is 2 at START, whatever it holds: D76 (2) of docs/DECISIONS.md, whose script no program of the gate can hold
-  pub too_long_run : 16777216 < length t → run_of rules b t book ≡ nothing_more (Err (fault 2 start))
-  too_long_run h =
-      let two = too_long t book h in
-      rw two at (run_refused (λ z. let no : 2 ≡ 0 = sym two ∙ z in omega (arith, no)))
+  pub too_long_run : 16777216 < length t → run_of rules b t book ≡ nothing_more (Err (fault TextTooLong start))
+  too_long_run h = run_refused (too_long t book h)
 
   -- what is refused leaves the memory as it was
-  pub refused_call : (refuses_of t book ≡ 0 → ⊥) → (laid : Entry → List ℕ) (ls es : List ℕ) → called (ran_of (nothing_more (Err (fault (refuses_of t book) start)))) ls es ≡ holds laid (run_of rules b t book) ls es
+  pub refused_call : {e : LexError} → refuses_of t book ≡ Err e → (laid : Entry → List ℕ) (ls es : List ℕ) → called (ran_of (nothing_more (Err (fault e start)))) ls es ≡ holds laid (run_of rules b t book) ls es
   unfolding laid_out entries literal_bytes
   refused_call n laid ls es = rw (run_refused n)

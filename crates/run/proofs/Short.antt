@@ -1,4 +1,6 @@
 -- A run lists one entry at most for each byte of its script, and packs four literal bytes at most for each. Assumes nothing.
+use Rattle.std.specs.Prelude.{Ok, Err}
+use Rattle.lex_error.specs.Numbers.{Asked}
 use Prim.Native.Nat.{ℕ, zero, suc, ◌+◌, ◌*◌, ◌≤◌}
 use native.Mathlib.Omega.{arith}
 use mathlib.Core.Bool.{Bool, true, false}
@@ -69,17 +71,17 @@ module _ (rules : Rules) (t book : List ℕ) (b : Bounds) (small : length t ≤ 
 
 pub run_short_lem : (rules : Rules) (b : Bounds) (t book : List ℕ) → Short t 0 0 (run_of rules b t book)
 unfolding script_of
-run_short_lem rules b t book = by (eqb (refuses_of t book) 0) refl
+run_short_lem rules b t book = by (refuses_of t book) refl
   where
-    by : (x : Bool) → eqb (refuses_of t book) 0 ≡ x → Short t 0 0 (run_of rules b t book)
-    by true q = let z = eqb-true _ 0 q in rw (run_read rules b t book z) (short rules t book b (admitted t book z).short (length t) begun 0 0 (begun_stands t b) (omega arith))
-    by false q = rw (run_refused rules b t book (eqb-false _ 0 q)) (over_short t 0 0 _ (omega arith) (omega arith))
+    by : (x : Asked) → refuses_of t book ≡ x → Short t 0 0 (run_of rules b t book)
+    by (Ok u) z = rw (run_read rules b t book z) (short rules t book b (admitted t book z).short (length t) begun 0 0 (begun_stands t b) (omega arith))
+    by (Err e) q = rw (run_refused rules b t book q) (over_short t 0 0 _ (omega arith) (omega arith))
 
 -- and so both counts are far below 2^32
 pub run_small : (rules : Rules) (b : Bounds) (t book : List ℕ) → (length (entries (run_of rules b t book).tokens) ≤ 16777216) × (length (literal_bytes (run_of rules b t book).tokens) ≤ 67108864)
 unfolding entries literal_bytes
-run_small rules b t book = by (eqb (refuses_of t book) 0) refl
+run_small rules b t book = by (refuses_of t book) refl
   where
-    by : (x : Bool) → eqb (refuses_of t book) 0 ≡ x → (length (entries (run_of rules b t book).tokens) ≤ 16777216) × (length (literal_bytes (run_of rules b t book).tokens) ≤ 67108864)
-    by true q = let h = run_short_lem rules b t book in let s = (admitted t book (eqb-true _ 0 q)).short in (omega (arith, h.entries), omega (arith, h.literals))
-    by false q = rw (run_refused rules b t book (eqb-false _ 0 q)) (omega arith, omega arith)
+    by : (x : Asked) → refuses_of t book ≡ x → (length (entries (run_of rules b t book).tokens) ≤ 16777216) × (length (literal_bytes (run_of rules b t book).tokens) ≤ 67108864)
+    by (Ok u) q = let h = run_short_lem rules b t book in let s = (admitted t book q).short in (omega (arith, h.entries), omega (arith, h.literals))
+    by (Err e) q = rw (run_refused rules b t book q) (omega arith, omega arith)

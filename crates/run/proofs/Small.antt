@@ -1,4 +1,5 @@
 -- The numbers of what a run lists, and of how it ends, are u32. Assumes nothing.
+use Rattle.lex_error.specs.Numbers.{Asked, no_refusal}
 use Rattle.std.specs.Prelude.{Err, Ok}
 use Prim.Native.Nat.{ℕ, ◌*◌, ◌≤◌}
 use native.Mathlib.Omega.{arith}
@@ -27,17 +28,12 @@ use Rattle.door.specs.RunDoor.{refuses_of}
 use Rattle.door.proofs.run.Doors.{admitted}
 use Rattle.run.specs.Run.{run_of}
 use Rattle.run.proofs.Runs.{run_read, run_refused}
-use Rattle.run.proofs.Fair.{Early, door_early}
 use Rattle.run.proofs.Short.{run_short_lem}
 
 -- in a longer script too
 longer : (n m : ℕ) → n ≤ m → (e : Ending) → EndingSmall n e → EndingSmall m e
 longer n m h (Ok p) k = k
 longer n m h (Err f) k = record { number = k.number; place = k.place; at = omega (arith, k.at); len = omega (arith, k.len) }
-
-early_small : (n : ℕ) → Early n → n ≤ 15
-early_small n (inl h) = omega arith
-early_small n (inr h) = omega arith
 
 script_readable : (rules : Rules) (t book : List ℕ) → Readable (length t) (script_of rules t book)
 unfolding script_of begun_at
@@ -52,15 +48,15 @@ Fitting l = U32s (laid_out numbers_of (entries l.tokens)) × EndingSmall 1677721
 
 pub run_fits_u32 : (rules : Rules) (b : Bounds) (t book : List ℕ) → Fitting (run_of rules b t book)
 unfolding laid_out entries
-run_fits_u32 rules b t book = by (eqb (refuses_of t book) 0) refl
+run_fits_u32 rules b t book = by (refuses_of t book) refl
   where
-    read : refuses_of t book ≡ 0 → Fitting (cut_run b 0 0 (script_of rules t book))
+    read : refuses_of t book ≡ no_refusal → Fitting (cut_run b 0 0 (script_of rules t book))
     read z =
         let short = (admitted t book z).short in
         let bytes = rw (run_read rules b t book z) at (run_short_lem rules b t book).literals in
         let fit = cut_fits_u32 (length t) b (4 * length t) (omega arith) (omega arith) 0 0 (script_of rules t book) (script_is_fair rules t book) (script_readable rules t book) bytes in
         (fit.0, longer (length t) 16777216 short (cut_run b 0 0 (script_of rules t book)).ending fit.1)
 
-    by : (x : Bool) → eqb (refuses_of t book) 0 ≡ x → Fitting (run_of rules b t book)
-    by true q = let z = eqb-true _ 0 q in rw (run_read rules b t book z) (read z)
-    by false q = rw (run_refused rules b t book (eqb-false _ 0 q)) (tt, fault_tells 16777216 (refuses_of t book) (early_small (refuses_of t book) (door_early t book)) start_small)
+    by : (x : Asked) → refuses_of t book ≡ x → Fitting (run_of rules b t book)
+    by (Ok u) z = rw (run_read rules b t book z) (read z)
+    by (Err e) q = rw (run_refused rules b t book q) (tt, fault_tells 16777216 e start_small)

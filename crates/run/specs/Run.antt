@@ -1,4 +1,5 @@
 -- A run over a script: document 01, "Run", and what it leaves in the memory that is lent to it.
+use Rattle.lex_error.specs.Numbers.{on_asked}
 use Rattle.std.specs.Prelude.{ℕ, ◌/◌, List, eqb, length}
 use Rattle.basis.specs.Types.{Bytes, Text}
 use Rattle.basis.specs.Pick.{pick}
@@ -17,7 +18,7 @@ use Rattle.run.specs.declared.Ran.{Ran}
 
 -- the reading of a script under a book; what is refused is refused at START
 unfoldable pub run_reading : Rules → Text → Bytes → Reading
-run_reading rules t book = let n = refuses_of t book in pick (eqb n 0) (script_of rules t book) (halts (fault n start))
+run_reading rules t book = on_asked (refuses_of t book) (script_of rules t book) (λ e. halts (fault e start))
 
 -- what a run leaves
 unfoldable pub run_of : Rules → Bounds → Text → Bytes → Left

@@ -44,7 +44,7 @@ fn row(e: Entry) -> [u32; Entry::NUMBERS]
 {
     let place = e.place;
     [
-        u32::from(e.kind),
+        u32::from(e.kind.number()),
         place.line_number() as u32,
         place.column_number() as u32,
         e.at as u32,

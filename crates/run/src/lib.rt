@@ -14,6 +14,7 @@ ghost use Rattle.run.specs.Run.{ran_of, called, run_call};
 
 use crate::layout::Part;
 use fault::Fault;
+use lex_error::LexError;
 use position::Position;
 use reading::Ending;
 
@@ -26,11 +27,11 @@ pub struct Ran {
 }
 
 // What is refused at the door is refused at START, and nothing is listed.
-fn refused(number: u8) -> Ran
-    ensures { result ≡ ran_of (nothing_more (Err (fault number start))) }
+fn refused(error: LexError) -> Ran
+    ensures { result ≡ ran_of (nothing_more (Err (fault error start))) }
 {
     Ran {
-        ending: Err(Fault::at(number, Position::START)),
+        ending: Err(Fault::at(error, Position::START)),
         listed: 0,
         used: 0,
     }
@@ -46,11 +47,9 @@ pub(crate) fn run_as<P: Part>(
 ) -> Ran
     ensures { called result literals.new (P.numbers entries.new) ≡ run_call P.WIDTH P.laid script.now book.now limit literals.old (P.numbers entries.old) }
 {
-    let number = door::run::refuses(script, book);
-    if number == 0 {
-        tokens::tokens(book, script, limit, literals, entries)
-    } else {
-        refused(number)
+    match door::run::refuses(script, book) {
+        Ok(()) => tokens::tokens(book, script, limit, literals, entries),
+        Err(error) => refused(error),
     }
 }
 

@@ -1,9 +1,8 @@
 -- Where no brace is to be counted a run only stands further on. Assumes nothing.
-use Prim.Native.Nat.{ℕ, ◌+◌, ◌-◌}
+use Prim.Native.Nat.{◌+◌, ◌-◌}
 use mathlib.Core.Bool.{Bool, true, false}
 use mathlib.Core.Path.{◌≡◌, refl, sym}
 use lib.Dec.{eqb, leb}
-use borrow.Author.Tests.{eq-eqb, ne_eqb}
 use Rattle.basis.specs.Pick.{pick, both, either, isnt}
 use Rattle.basis.proofs.Cases.{not_both}
 use Rattle.token.specs.Tokens as Tokens
@@ -14,36 +13,6 @@ use Rattle.script.specs.declared.Crossed.TheVariants.{Plain, Piece, Token}
 use Rattle.script.specs.States.{state, moved_to, count, with_braces, resumed, opened, closed, behind, behind_of}
 use Rattle.script.specs.Counts.{counts}
 
--- ---- each way out of the test
-module _ (level : ℕ) {what : Crossed} where
-  pub plain_counts : what ≡ Plain → counts level what ≡ false
-  unfolding counts
-  plain_counts q = rw q
-
-  pub piece_counts : what ≡ Piece → counts level what ≡ true
-  unfolding counts
-  piece_counts q = rw q
-
-  module _ {t : ℕ} (q : what ≡ Token t) where
-    pub none_counts : level ≡ 0 → counts level what ≡ false
-    unfolding counts
-    none_counts z = rw (q, eq-eqb level 0 z)
-
-    module _ (z : level ≡ 0 → ⊥) where
-      pub left_counts : t ≡ Tokens.LeftBrace → counts level what ≡ true
-      unfolding counts
-      left_counts l = rw (q, ne_eqb level 0 z, eq-eqb t Tokens.LeftBrace l)
-
-      module _ (l : t ≡ Tokens.LeftBrace → ⊥) where
-        pub map_counts : t ≡ Tokens.MapStart → counts level what ≡ true
-        unfolding counts
-        map_counts m = rw (q, ne_eqb level 0 z, ne_eqb t Tokens.LeftBrace l, eq-eqb t Tokens.MapStart m)
-
-        pub other_counts : (t ≡ Tokens.MapStart → ⊥) → counts level what ≡ eqb t Tokens.RightBrace
-        unfolding counts
-        other_counts m = rw (q, ne_eqb level 0 z, ne_eqb t Tokens.LeftBrace l, ne_eqb t Tokens.MapStart m)
-
--- ---- behind what counts no brace
 -- where a symbol leads, by its tests
 abbrev there : Cursor → State → Bool → Bool → Bool → Bool → State
 there to s z a b c =

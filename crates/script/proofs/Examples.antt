@@ -1,4 +1,5 @@
 -- Worked examples of a script's reading, under one theorem: document 01's listing, and the readings of docs/DECISIONS.md. Assumes nothing.
+use Rattle.lex_error.specs.declared.LexError.TheVariants.{NoLiteralRoom, NoTokenRoom, NotOneCharacter, StillOpen, StringTooLong, UnterminatedString}
 use Rattle.std.specs.Prelude.{Err, Ok}
 use Prim.Native.Nat.{ℕ}
 use Prim.Native.String.{String}
@@ -15,6 +16,7 @@ use Rattle.escape.proofs.Computes.{the_escapes}
 use Rattle.string_turn.proofs.Computes.{the_takes, the_acts}
 use Rattle.string.proofs.Computes.{the_string_rules}
 use Rattle.raw.proofs.Computes.{the_raw_rules}
+use Rattle.entry.specs.Kinds as Kind
 use Rattle.entry.specs.declared.Entry.{Entry}
 use Rattle.entry.specs.Entries.{entry}
 use Rattle.find.specs.Find.{opens_string}
@@ -44,44 +46,44 @@ ReadsOne script k o from end = script_of document01 (word script) (0 ∷ 0 ∷ [
 
 pub record Worked : Type 0 where
   -- document 01's listing
-  pub listing : Leaves "let d = #\"a\"b\"#;\n" (entry 2 (place 1 1) 0 3 ∷ entry 1 (place 1 5) 4 1 ∷ entry 3 (place 1 7) 6 1 ∷ entry 8 (place 1 9) 0 3 ∷ entry 3 (place 1 16) 15 1 ∷ []) "a\"b" (Ok (place 2 0))
+  pub listing : Leaves "let d = #\"a\"b\"#;\n" (entry Kind.keyword (place 1 1) 0 3 ∷ entry Kind.name (place 1 5) 4 1 ∷ entry Kind.symbol (place 1 7) 6 1 ∷ entry Kind.raw (place 1 9) 0 3 ∷ entry Kind.symbol (place 1 16) 15 1 ∷ []) "a\"b" (Ok (place 2 0))
   -- the run's end adds no column
   pub nothing : Leaves "" ([]) "" (Ok (place 1 0))
   -- a number run
-  pub number : Leaves "12" (entry 4 (place 1 1) 0 2 ∷ []) "" (Ok (place 1 2))
+  pub number : Leaves "12" (entry Kind.number (place 1 1) 0 2 ∷ []) "" (Ok (place 1 2))
   -- a text with a block in it: its second piece starts at the `}`
-  pub interpolation : Leaves "`a${b}c`" (entry 6 (place 1 1) 0 1 ∷ entry 3 (place 1 4) 3 1 ∷ entry 1 (place 1 5) 4 1 ∷ entry 3 (place 1 6) 5 1 ∷ entry 7 (place 1 6) 1 1 ∷ []) "ac" (Ok (place 1 8))
+  pub interpolation : Leaves "`a${b}c`" (entry Kind.interpolated (place 1 1) 0 1 ∷ entry Kind.symbol (place 1 4) 3 1 ∷ entry Kind.name (place 1 5) 4 1 ∷ entry Kind.symbol (place 1 6) 5 1 ∷ entry Kind.text (place 1 6) 1 1 ∷ []) "ac" (Ok (place 1 8))
   -- `//` to before LF
-  pub line : Leaves "//a\nb" (entry 10 (place 1 1) 0 3 ∷ entry 1 (place 2 1) 4 1 ∷ []) "" (Ok (place 2 1))
+  pub line : Leaves "//a\nb" (entry Kind.comment (place 1 1) 0 3 ∷ entry Kind.name (place 2 1) 4 1 ∷ []) "" (Ok (place 2 1))
   -- `#` before `{` is a symbol
-  pub map : Leaves "#{" (entry 3 (place 1 1) 0 2 ∷ []) "" (Ok (place 1 2))
+  pub map : Leaves "#{" (entry Kind.symbol (place 1 1) 0 2 ∷ []) "" (Ok (place 1 2))
   -- the scan's rule for `'` holds right after the opener
-  pub char : Leaves "''''" (entry 9 (place 1 1) 0 1 ∷ []) "'" (Ok (place 1 4))
+  pub char : Leaves "''''" (entry Kind.char (place 1 1) 0 1 ∷ []) "'" (Ok (place 1 4))
   -- 12 at its start
-  pub no_char_lem : Leaves "''" ([]) "" (Err (fault 12 (place 1 1)))
+  pub no_char_lem : Leaves "''" ([]) "" (Err (fault NotOneCharacter (place 1 1)))
   -- 4 where the scan says 4
-  pub cut_char : Leaves "'''" ([]) "" (Err (fault 4 (place 1 1)))
-  pub cut_string : Leaves "\"" ([]) "" (Err (fault 4 (place 1 1)))
+  pub cut_char : Leaves "'''" ([]) "" (Err (fault UnterminatedString (place 1 1)))
+  pub cut_string : Leaves "\"" ([]) "" (Err (fault UnterminatedString (place 1 1)))
   -- 11 at the cursor that the scan reached
-  pub open_text : Leaves "`" ([]) "" (Err (fault 11 (place 1 2)))
-  pub open_line : Leaves "`\n" ([]) "" (Err (fault 11 (place 2 1)))
-  pub open_raw : Leaves "#\"" ([]) "" (Err (fault 11 (place 1 2)))
-  pub open_comment : Leaves "/*" ([]) "" (Err (fault 11 (place 1 2)))
+  pub open_text : Leaves "`" ([]) "" (Err (fault StillOpen (place 1 2)))
+  pub open_line : Leaves "`\n" ([]) "" (Err (fault StillOpen (place 2 1)))
+  pub open_raw : Leaves "#\"" ([]) "" (Err (fault StillOpen (place 1 2)))
+  pub open_comment : Leaves "/*" ([]) "" (Err (fault StillOpen (place 1 2)))
   -- a lone backslash leaves `"` open
-  pub open_string : Leaves "\"a\\" ([]) "" (Err (fault 11 (place 1 4)))
+  pub open_string : Leaves "\"a\\" ([]) "" (Err (fault StillOpen (place 1 4)))
   -- an interpolation that is open: the run's cursor, white space skipped, no column added
-  pub open_block : Leaves "`${ " (entry 6 (place 1 1) 0 0 ∷ entry 3 (place 1 3) 2 1 ∷ []) "" (Err (fault 11 (place 1 4)))
+  pub open_block : Leaves "`${ " (entry Kind.interpolated (place 1 1) 0 0 ∷ entry Kind.symbol (place 1 3) 2 1 ∷ []) "" (Err (fault StillOpen (place 1 4)))
   -- a text that is due at the end
-  pub open_piece : Leaves "`${}" (entry 6 (place 1 1) 0 0 ∷ entry 3 (place 1 3) 2 1 ∷ entry 3 (place 1 4) 3 1 ∷ []) "" (Err (fault 11 (place 1 5)))
+  pub open_piece : Leaves "`${}" (entry Kind.interpolated (place 1 1) 0 0 ∷ entry Kind.symbol (place 1 3) 2 1 ∷ entry Kind.symbol (place 1 4) 3 1 ∷ []) "" (Err (fault StillOpen (place 1 5)))
   -- one literal
-  pub one_literal : ReadsOne "\"a\"" (token 5 (cursor 0 (place 1 1)) (cursor 3 (place 1 3))) opens_string (cursor 1 (place 1 1)) (place 1 3)
+  pub one_literal : ReadsOne "\"a\"" (token Kind.string (cursor 0 (place 1 1)) (cursor 3 (place 1 3))) opens_string (cursor 1 (place 1 1)) (place 1 3)
   -- two literals, with room for both
-  pub two_literals : LeavesWithin 0 2 2 "\"a\" \"b\"" (entry 5 (place 1 1) 0 1 ∷ entry 5 (place 1 5) 1 1 ∷ []) "ab" (Ok (place 1 7))
-  pub two_others : LeavesWithin 0 2 2 "\"a\" \"c\"" (entry 5 (place 1 1) 0 1 ∷ entry 5 (place 1 5) 1 1 ∷ []) "ac" (Ok (place 1 7))
+  pub two_literals : LeavesWithin 0 2 2 "\"a\" \"b\"" (entry Kind.string (place 1 1) 0 1 ∷ entry Kind.string (place 1 5) 1 1 ∷ []) "ab" (Ok (place 1 7))
+  pub two_others : LeavesWithin 0 2 2 "\"a\" \"c\"" (entry Kind.string (place 1 1) 0 1 ∷ entry Kind.string (place 1 5) 1 1 ∷ []) "ac" (Ok (place 1 7))
   -- the second passes the string limit, the literal room, or the token room
-  pub too_long : LeavesWithin 1 9 2 "\"a\" \"bc\"" (entry 5 (place 1 1) 0 1 ∷ []) "a" (Err (fault 7 (place 1 5)))
-  pub no_bytes_left : LeavesWithin 0 1 2 "\"a\" \"b\"" (entry 5 (place 1 1) 0 1 ∷ []) "a" (Err (fault 9 (place 1 5)))
-  pub no_entry_left : LeavesWithin 0 2 1 "\"a\" \"b\"" (entry 5 (place 1 1) 0 1 ∷ []) "a" (Err (fault 10 (place 1 5)))
+  pub too_long : LeavesWithin 1 9 2 "\"a\" \"bc\"" (entry Kind.string (place 1 1) 0 1 ∷ []) "a" (Err (fault StringTooLong (place 1 5)))
+  pub no_bytes_left : LeavesWithin 0 1 2 "\"a\" \"b\"" (entry Kind.string (place 1 1) 0 1 ∷ []) "a" (Err (fault NoLiteralRoom (place 1 5)))
+  pub no_entry_left : LeavesWithin 0 2 1 "\"a\" \"b\"" (entry Kind.string (place 1 1) 0 1 ∷ []) "a" (Err (fault NoTokenRoom (place 1 5)))
 
 pub worked : Worked
 unfolding the_places the_characters the_readings the_escapes the_takes the_acts the_string_rules the_raw_rules the_listed the_symbols the_names the_books the_finds the_steps the_runs

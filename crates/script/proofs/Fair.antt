@@ -12,7 +12,7 @@ use Rattle.utf8.specs.Table.{chars}
 use Rattle.classes.specs.Marks.{hash, apostrophe}
 use Rattle.fault.specs.declared.Fault.{Fault}
 use Rattle.position.specs.Place.{none}
-use Rattle.fault.specs.Faults.{Own, still_open, not_one_character, too_deep}
+use Rattle.fault.specs.Faults.{Own, number, still_open, not_one_character, too_deep}
 use Rattle.chars.specs.declared.cursor.Cursor.{Cursor}
 use Rattle.literal.specs.declared.End.{End}
 use Rattle.literal.specs.Trace.{Trace, bytes, final, Outcome, good, bad}
@@ -53,7 +53,7 @@ led_fair : (x : Step) → FairStep x → (next : State → Reading) → ((s : St
 led_fair (on x s) f next g = noted_fair x (next s) f (g s)
 led_fair (last r) f next g = f
 
-eleven : (n : ℕ) → 11 ≤ n → (f : Fault) → f.number ≡ n → Own f
+eleven : (n : ℕ) → 11 ≤ n → (f : Fault) → number f ≡ n → Own f
 eleven n h f q = (λ z. omega arith, λ z. omega arith, λ z. omega arith)
 
 -- what is wrong with a literal that its scan accepts is 11, 12 or 13

@@ -1,12 +1,10 @@
--- Where a run stands behind what it has passed, for each way out of the functions, and that it stays fine. Assumes nothing.
-use Prim.Native.Nat.{ℕ, zero, suc, ◌+◌, ◌-◌, ◌≤◌, ◌<◌}
+-- A run stays fine behind what it has passed. Assumes nothing.
+use Prim.Native.Nat.{ℕ, zero, suc, ◌-◌, ◌≤◌, ◌<◌}
 use native.Mathlib.Omega.{arith}
-use mathlib.Core.Bool.{Bool, true, false}
+use mathlib.Core.Bool.{Bool}
 use mathlib.Core.List.{List, [], ◌∷◌}
-use mathlib.Core.Path.{◌≡◌}
 use lib.Dec.{eqb, leb}
 use lib.ListN.{get_or, set}
-use borrow.Author.Tests.{eq-eqb, ne_eqb, le-leb, lt-leb}
 use Rattle.basis.specs.Pick.{either}
 use Rattle.basis.proofs.Cases.{pick_cases}
 use Rattle.chars.specs.declared.cursor.Cursor.{Cursor}
@@ -16,65 +14,6 @@ use Rattle.script.specs.declared.Crossed.{Crossed}
 use Rattle.script.specs.declared.Crossed.TheVariants.{Plain, Piece, Token}
 use Rattle.script.specs.States.{state, moved_to, interpolating, count, with_braces, resumed, opened, closed, behind, behind_of, Fine, Fits}
 
-module _ (to : Cursor) (s : State) where
-  pub opens_nothing : s.level ≡ 0 → opened to s ≡ moved_to to s
-  unfolding opened
-  opens_nothing q = rw (eq-eqb s.level 0 q)
-
-  pub opens_one : (s.level ≡ 0 → ⊥) → opened to s ≡ state to s.level (set s.braces (s.level - 1) (get_or s.braces (s.level - 1) 0 + 1)) false
-  unfolding opened with_braces count
-  opens_one q = rw (ne_eqb s.level 0 q)
-
-  pub closes_nothing : s.level ≡ 0 → closed to s ≡ moved_to to s
-  unfolding closed
-  closes_nothing q = rw (eq-eqb s.level 0 q)
-
-  module _ (q : s.level ≡ 0 → ⊥) where
-    pub closes_last : get_or s.braces (s.level - 1) 0 ≤ 1 → closed to s ≡ state to (s.level - 1) (set s.braces (s.level - 1) 0) true
-    unfolding closed resumed count
-    closes_last h = rw (ne_eqb s.level 0 q, le-leb _ 1 h)
-
-    pub closes_one : 1 < get_or s.braces (s.level - 1) 0 → closed to s ≡ state to s.level (set s.braces (s.level - 1) (get_or s.braces (s.level - 1) 0 - 1)) false
-    unfolding closed with_braces count
-    closes_one h = rw (ne_eqb s.level 0 q, lt-leb _ 1 h)
-
-module _ (t : ℕ) (to : Cursor) (s : State) where
-  pub behind_left : t ≡ Tokens.LeftBrace → behind t to s ≡ opened to s
-  unfolding behind
-  behind_left q = rw (eq-eqb t Tokens.LeftBrace q)
-
-  module _ (l : t ≡ Tokens.LeftBrace → ⊥) where
-    pub behind_map : t ≡ Tokens.MapStart → behind t to s ≡ opened to s
-    unfolding behind
-    behind_map q = rw (ne_eqb t Tokens.LeftBrace l, eq-eqb t Tokens.MapStart q)
-
-    module _ (m : t ≡ Tokens.MapStart → ⊥) where
-      pub behind_right : t ≡ Tokens.RightBrace → behind t to s ≡ closed to s
-      unfolding behind
-      behind_right q = rw (ne_eqb t Tokens.LeftBrace l, ne_eqb t Tokens.MapStart m, eq-eqb t Tokens.RightBrace q)
-
-      pub behind_other : (t ≡ Tokens.RightBrace → ⊥) → behind t to s ≡ moved_to to s
-      unfolding behind
-      behind_other q = rw (ne_eqb t Tokens.LeftBrace l, ne_eqb t Tokens.MapStart m, ne_eqb t Tokens.RightBrace q)
-
--- what was passed, by its case
-module _ {what : Crossed} (to : Cursor) (s : State) where
-  pub passed_plain : what ≡ Plain → behind_of what to s ≡ moved_to to s
-  unfolding behind_of
-  passed_plain q = rw q
-
-  pub passed_piece : what ≡ Piece → behind_of what to s ≡ interpolating to s
-  unfolding behind_of
-  passed_piece q = rw q
-
-  pub passed_token : {t : ℕ} → what ≡ Token t → behind_of what to s ≡ behind t to s
-  unfolding behind_of
-  passed_token q = rw q
-
-pub room_for : {what : Crossed} (s : State) → what ≡ Piece → Fits what s → s.level < 16
-room_for s q f = rw q at f
-
--- ---- a run stays fine
 set_few : (l : List ℕ) (i v b : ℕ) → v ≤ b → ((j : ℕ) → get_or l j 0 ≤ b) → (j : ℕ) → get_or (set l i v) j 0 ≤ b
 set_few [] i v b h f j = omega arith
 set_few (x ∷ l) zero v b h f zero = h

@@ -1,4 +1,5 @@
 -- What a script's reading tells is small. Assumes nothing.
+use Rattle.lex_error.specs.declared.LexError.TheVariants.{NotOneCharacter, StillOpen, TooDeep}
 use Rattle.std.specs.Prelude.{Err, Ok}
 use Prim.Native.Nat.{ℕ, zero, suc, ◌-◌, ◌≤◌}
 use native.Mathlib.Omega.{arith}
@@ -26,6 +27,8 @@ use Rattle.find.proofs.Ahead as Finds
 use Rattle.find.proofs.Ahead.{find_ahead}
 use Rattle.find.proofs.Small.{FoundSmall, find_small}
 use Rattle.reading.specs.Reading.{Reading}
+use Rattle.entry.specs.Kinds as Kind
+use Rattle.entry.proofs.KindNumbers.{kind_small}
 use Rattle.reading.proofs.Small.{Readable, TokenSmall}
 use Rattle.script.specs.Rules.{Rules}
 use Rattle.script.specs.declared.State.{State}
@@ -53,11 +56,11 @@ module _ (rules : Rules) (t book : List ℕ) where
   verdict_small : (o : Opener) (level : ℕ) (from : Cursor) (e : End) (body : List ℕ) → Small from.place → Small e.cursor.place → VerdictSmall (verdict_of o level from e body)
   unfolding verdict_of
   verdict_small o level from e body h k =
-      pick_cases VerdictSmall (isnt (eqb e.on_record.times 0)) _ _ (λ y. fault_tells (length t) 11 (omega arith) k)
+      pick_cases VerdictSmall (isnt (eqb e.on_record.times 0)) _ _ (λ y. fault_tells (length t) StillOpen k)
       (λ n. pick_cases VerdictSmall e.interpolated _ _
-      (λ y. pick_cases VerdictSmall (leb 16 level) _ _ (λ z. fault_tells (length t) 13 (omega arith) h) (λ z. tt))
+      (λ y. pick_cases VerdictSmall (leb 16 level) _ _ (λ z. fault_tells (length t) TooDeep h) (λ z. tt))
       (λ m. pick_cases VerdictSmall (eqb o.terminator apostrophe) _ _
-      (λ y. pick_cases VerdictSmall (eqb (length (chars body)) 1) _ _ (λ z. tt) (λ z. fault_tells (length t) 12 (omega arith) h))
+      (λ y. pick_cases VerdictSmall (eqb (length (chars body)) 1) _ _ (λ z. tt) (λ z. fault_tells (length t) NotOneCharacter h))
       (λ z. tt)))
 
   trace_small : (o : Opener) (from : Cursor) → Small from.place → Traced (length t) (literal_trace rules t o from)
@@ -66,7 +69,7 @@ module _ (rules : Rules) (t book : List ℕ) where
       pick_cases (Traced (length t)) (eqb o.terminator hash) _ _ (λ y. read_traced rules.newlines t from 0 h) (λ n. reading_traced rules.white t o.terminator from h)
 
   -- a literal that begins within the script, and lands within it
-  module _ (o : Opener) (l : o.kind ≤ 11) (from : Cursor) (h : Small from.place) (inside : from.at ≤ length t) (s : State) (within : s.cursor.at ≤ length t) where
+  module _ (o : Opener) (from : Cursor) (h : Small from.place) (inside : from.at ≤ length t) (s : State) (within : s.cursor.at ≤ length t) where
     ended_small : (x : Trace) → Traced (length t) x → (y : Outcome) → Lands t from.at 0 (length (bytes x)) y → OutcomeSmall (length t) y → StepSmall (on_end o from x s y)
     unfolding listed_of interpolating moved_to
     ended_small x i (bad f) land j = (h, i, j)
@@ -75,8 +78,8 @@ module _ (rules : Rules) (t book : List ℕ) where
         by : (v : Verdict) → VerdictSmall v → StepSmall (on_verdict o from x e s v)
         by (Ok u) k =
             pick_cases StepSmall e.interpolated _ _
-            (λ z. ((record { kind = omega arith; place = h; starts = within; ends = land.1 inside }, i), j, land.1 inside))
-            (λ z. ((record { kind = l; place = h; starts = within; ends = land.1 inside }, i), j, land.1 inside))
+            (λ z. ((record { kind = kind_small Kind.interpolated; place = h; starts = within; ends = land.1 inside }, i), j, land.1 inside))
+            (λ z. ((record { kind = kind_small o.kind; place = h; starts = within; ends = land.1 inside }, i), j, land.1 inside))
         by (Err f) k = (h, i, k)
 
     literal_small : StepSmall (literal_step rules t o from s)
@@ -89,15 +92,15 @@ module _ (rules : Rules) (t book : List ℕ) where
     found_small : (x : Found) → Finds.Ahead t s.cursor.at x → FoundSmall rules.white t book x → StepSmall (on_found rules t s x)
     unfolding end_step moved_to
     found_small (found.White c) a k = (tt, k, a.1)
-    found_small (found.Part c k w) a q = (record { kind = q.0; place = advanced_small h; starts = within; ends = a.1 }, rw (behind_cursor w c s) q.1, rw (behind_cursor w c s) a.1)
-    found_small (found.Literal c o) a q = literal_small o q.0 c q.1 a.1 s within
+    found_small (found.Part c k w) a q = (record { kind = kind_small k; place = advanced_small h; starts = within; ends = a.1 }, rw (behind_cursor w c s) q, rw (behind_cursor w c s) a.1)
+    found_small (found.Literal c o) a q = literal_small o c q a.1 s within
     found_small (found.Wrong f) a k = k
-    found_small found.End a k = pick_cases (Readable (length t)) (eqb s.level 0) _ _ (λ y. h) (λ n. fault_tells (length t) 11 (omega arith) h)
+    found_small found.End a k = pick_cases (Readable (length t)) (eqb s.level 0) _ _ (λ y. h) (λ n. fault_tells (length t) StillOpen h)
 
     step_small : StepSmall (step_of rules t book s)
     unfolding step_of
     step_small =
-        pick_cases StepSmall s.due _ _ (λ y. literal_small opens_text (omega arith) s.cursor h within s within)
+        pick_cases StepSmall s.due _ _ (λ y. literal_small opens_text s.cursor h within s within)
         (λ n. found_small (find_of rules.white t book s.cursor) (find_ahead rules.white t book s.cursor) (find_small rules.white t book s.cursor h))
 
   -- a note in front of a reading
@@ -116,7 +119,7 @@ module _ (rules : Rules) (t book : List ℕ) where
 
   reading_small : (k : ℕ) (bs : List ℕ) (s : State) → Standing s → Readable (length t) (reading_from rules t book k bs s)
   unfolding reading_from
-  reading_small k [] s h = led_small (step_of rules t book s) (step_small s h.0 h.1) _ (λ s' i. fault_tells (length t) 11 (omega arith) none_small)
+  reading_small k [] s h = led_small (step_of rules t book s) (step_small s h.0 h.1) _ (λ s' i. fault_tells (length t) StillOpen none_small)
   reading_small zero (b ∷ bs) s h = led_small (step_of rules t book s) (step_small s h.0 h.1) _ (λ s' i. reading_small (s'.cursor.at - suc s.cursor.at) bs s' i)
   reading_small (suc k) (b ∷ bs) s h = reading_small k bs s h
 

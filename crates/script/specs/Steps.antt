@@ -9,6 +9,7 @@ use Rattle.chars.specs.Cursors.{cursor}
 use Rattle.chars.specs.declared.cursor.Cursor.{Cursor}
 use Rattle.fault.specs.Faults.{still_open, not_one_character, too_deep}
 use Rattle.entry.specs.Kinds as Kind
+use Rattle.entry.specs.declared.kinds.Kind.{Kind as TokenKind}
 use Rattle.literal.specs.declared.End.{End}
 use Rattle.literal.specs.Trace.{Trace, bytes, final, Outcome, good, bad}
 use Rattle.raw.specs.Raw.{read_of}
@@ -85,7 +86,7 @@ unfoldable pub end_step : State → Step
 end_step s = last (pick (eqb s.level 0) (finishes s.cursor.place) (halts (still_open s.cursor.place)))
 
 -- a token that is a part of the script, up to a cursor
-abbrev pub part_step : ℕ → ℕ → Cursor → State → Step
+abbrev pub part_step : TokenKind → ℕ → Cursor → State → Step
 part_step k w c s = on (token (Reading.token k (cursor s.cursor.at (advanced s.cursor.place)) c)) (behind w c s)
 
 -- what comes of what begins here

@@ -39,13 +39,15 @@ impl Crossed {
         ensures { result ≡ passed_of piece token }
     {
         if piece {
-            return Crossed::Piece;
+            Crossed::Piece
+        } else {
+            Crossed::Token(token)
         }
-        Crossed::Token(token)
     }
 
     // Whether braces are to be counted behind it, with so many interpolations open. Behind anything else a run only stands
     // further on.
+    #[tactic(auto, unfolding(crate::specs::Counts::counts))]
     pub fn counts(self, level: usize) -> bool
         ensures { result ≡ counts level self }
     {
@@ -53,102 +55,19 @@ impl Crossed {
             Crossed::Plain => false,
             Crossed::Piece => true,
             Crossed::Token(token) => {
-                if level == 0 {
-                    return false;
-                }
-                if token == tokens::LEFT_BRACE {
-                    return true;
-                }
-                if token == tokens::MAP_START {
-                    return true;
-                }
-                token == tokens::RIGHT_BRACE
+                level != 0
+                    && matches!(
+                        token,
+                        tokens::LEFT_BRACE | tokens::MAP_START | tokens::RIGHT_BRACE
+                    )
             }
         }
     }
 }
 
-fn moved_to(to: Cursor, s: State) -> State
-    ensures { result ≡ moved_to to s }
-{
-    let braces = s.braces;
-    State {
-        cursor: to,
-        level: s.level,
-        braces,
-        due: false,
-    }
-}
-
-// One interpolation more, with no brace open yet.
-fn interpolating(to: Cursor, s: State) -> State
-    requires { s.level < 16 }
-    ensures { result ≡ interpolating to s }
-{
-    let level = s.level;
-    let mut braces = s.braces;
-    braces[level] = 0;
-    State {
-        cursor: to,
-        level: level + 1,
-        braces,
-        due: false,
-    }
-}
-
-// Behind an opening brace.
-fn opened(to: Cursor, s: State) -> State
-    requires { Fine s }
-    ensures { result ≡ opened to s }
-{
-    let level = s.level;
-    if level == 0 {
-        return moved_to(to, s);
-    }
-    let top = level - 1;
-    let mut braces = s.braces;
-    let count = braces[top] + 1;
-    braces[top] = count;
-    State {
-        cursor: to,
-        level,
-        braces,
-        due: false,
-    }
-}
-
-// Behind a closing brace: the last one of an interpolation closes it, and its text goes on.
-fn closed(to: Cursor, s: State) -> State
-    requires { Fine s }
-    ensures { result ≡ closed to s }
-{
-    let level = s.level;
-    if level == 0 {
-        return moved_to(to, s);
-    }
-    let top = level - 1;
-    let mut braces = s.braces;
-    let count = braces[top];
-    if count <= 1 {
-        braces[top] = 0;
-        return State {
-            cursor: to,
-            level: top,
-            braces,
-            due: true,
-        };
-    }
-    braces[top] = count - 1;
-    State {
-        cursor: to,
-        level,
-        braces,
-        due: false,
-    }
-}
-
 impl State {
     // Where a run begins, behind a cursor.
+    #[tactic(auto, unfolding(crate::specs::States::begun_at))]
     pub fn begun(cursor: Cursor) -> State
         ensures { result ≡ begun_at cursor }
     {
@@ -161,24 +80,66 @@ impl State {
     }
 
     // Where a run stands behind what it has passed.
-    pub fn behind(self, what: Crossed, to: Cursor) -> State
+    #[tactic(auto, unfolding(crate::specs::States::behind_of, crate::specs::States::behind))]
+    pub fn behind(mut self, what: Crossed, to: Cursor) -> State
         requires { Fine self × Fits what self }
         ensures { result ≡ behind_of what to self }
     {
         match what {
-            Crossed::Plain => moved_to(to, self),
-            Crossed::Piece => interpolating(to, self),
-            Crossed::Token(token) => {
-                if token == tokens::LEFT_BRACE {
-                    return opened(to, self);
-                }
-                if token == tokens::MAP_START {
-                    return opened(to, self);
-                }
-                if token == tokens::RIGHT_BRACE {
-                    return closed(to, self);
-                }
-                moved_to(to, self)
+            Crossed::Piece => self.interpolate(to),
+            Crossed::Token(tokens::LEFT_BRACE | tokens::MAP_START) => self.open(to),
+            Crossed::Token(tokens::RIGHT_BRACE) => self.close(to),
+            Crossed::Plain | Crossed::Token(_) => self.move_to(to),
+        }
+        self
+    }
+
+    #[tactic(auto, unfolding(crate::specs::States::moved_to))]
+    fn move_to(&mut self, to: Cursor)
+        ensures { self.new ≡ moved_to to self.old }
+    {
+        self.cursor = to;
+        self.due = false;
+    }
+
+    // One interpolation more, with no brace open yet.
+    #[tactic(auto, unfolding(crate::specs::States::moved_to, crate::specs::States::interpolating))]
+    fn interpolate(&mut self, to: Cursor)
+        requires { self.old.level < 16 }
+        ensures { self.new ≡ interpolating to self.old }
+    {
+        self.move_to(to);
+        self.braces[self.level] = 0;
+        self.level += 1;
+    }
+
+    // Behind an opening brace.
+    #[tactic(auto, unfolding(crate::specs::States::moved_to, crate::specs::States::opened, crate::specs::States::with_braces, crate::specs::States::count))]
+    fn open(&mut self, to: Cursor)
+        requires { Fine self.old }
+        ensures { self.new ≡ opened to self.old }
+    {
+        self.move_to(to);
+        if self.level != 0 {
+            self.braces[self.level - 1] += 1;
+        }
+    }
+
+    // Behind a closing brace: the last one of an interpolation closes it, and its text goes on.
+    #[tactic(auto, unfolding(crate::specs::States::moved_to, crate::specs::States::closed, crate::specs::States::resumed, crate::specs::States::with_braces, crate::specs::States::count))]
+    fn close(&mut self, to: Cursor)
+        requires { Fine self.old }
+        ensures { self.new ≡ closed to self.old }
+    {
+        self.move_to(to);
+        if self.level != 0 {
+            let top = self.level - 1;
+            if self.braces[top] <= 1 {
+                self.braces[top] = 0;
+                self.level = top;
+                self.due = true;
+            } else {
+                self.braces[top] -= 1;
             }
         }
     }

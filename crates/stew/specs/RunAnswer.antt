@@ -1,4 +1,5 @@
 -- The run through C: what `stew_run` returns, and what the three slices lent to it hold then.
+use Rattle.lex_error.specs.Numbers.{on_asked, number_of}
 use Rattle.std.specs.Prelude.{ℕ, List, [], ◌∷◌, eqb, ltb, length}
 use Rattle.basis.specs.Types.{Bytes, Text}
 use Rattle.basis.specs.Pick.{pick}
@@ -24,7 +25,7 @@ tells l = tells_of l.ending (length (entries l.tokens)) (length (literal_bytes l
 
 -- the number for too short an answer: 2, 1 or 14 where one applies, else 9
 unfoldable pub run_short : Text → Bytes → ℕ
-run_short script book = pick (eqb (refuses_of script book) 0) 9 (refuses_of script book)
+run_short script book = on_asked (refuses_of script book) 9 number_of
 
 -- a call: the number returned, and what the three slices hold then
 pub record CCalled : Type 0 where

@@ -1,4 +1,5 @@
 -- The raw writer through C: what `stew_raw_write` returns, and what the two slices lent to it hold then.
+use Rattle.lex_error.specs.Numbers.{on_asked, number_of}
 use Rattle.std.specs.Prelude.{ℕ, Bool, List, eqb, ltb, length, Err, Ok}
 use Rattle.basis.specs.Types.{Bytes}
 use Rattle.basis.specs.Pick.{pick}
@@ -20,7 +21,7 @@ write_too_short answer = ltb (length answer) 4
 
 -- the number for too short an answer: 2 or 1 where the body gives one, else 9
 unfoldable pub short_write_number : Bytes → ℕ
-short_write_number body = pick (eqb (text_of body) 0) 9 (text_of body)
+short_write_number body = on_asked (text_of body) 9 number_of
 
 -- what is returned: 0, or the refusal's number
 unfoldable pub write_returned : Bytes → Bytes → List ℕ → ℕ

@@ -2,7 +2,7 @@
 ghost use Rattle.std.specs.Prelude.{◌≡◌, ◌≤◌, get_or};
 ghost use Rattle.stew.specs.RunAnswer.{tells_of, run_short, c_called, stew_run_of};
 
-use fault::Fault;
+use lex_error::LexError;
 use reading::Ending;
 use run::Ran;
 
@@ -12,42 +12,35 @@ fn row_of(ran: Ran) -> [u64; 7]
 {
     let listed = ran.listed as u64;
     let used = ran.used as u64;
-    let ending = ran.ending;
-    match ending {
-        Ok(place) => {
-            return [
-                0,
-                place.line_number() as u64,
-                place.column_number() as u64,
-                listed,
-                used,
-                0,
-                0,
-            ];
-        }
-        Err(fault) => {
-            let place = fault.place;
-            return [
-                fault.number as u64,
-                place.line_number() as u64,
-                place.column_number() as u64,
-                listed,
-                used,
-                fault.part.at as u64,
-                fault.part.len as u64,
-            ];
-        }
+    match ran.ending {
+        Ok(place) => [
+            0,
+            u64::from(place.line_number()),
+            u64::from(place.column_number()),
+            listed,
+            used,
+            0,
+            0,
+        ],
+        Err(fault) => [
+            u64::from(fault.error.number()),
+            u64::from(fault.place.line_number()),
+            u64::from(fault.place.column_number()),
+            listed,
+            used,
+            fault.part.at as u64,
+            fault.part.len as u64,
+        ],
     }
 }
 
 fn short_number(script: &[u8], book: &[u8]) -> u32
     ensures { result ≡ run_short script.now book.now }
 {
-    let number = door::run::refuses(script, book);
-    if number == 0 {
-        return Fault::NO_LITERAL_ROOM as u32;
+    match door::run::refuses(script, book) {
+        Ok(()) => u32::from(LexError::NoLiteralRoom.number()),
+        Err(error) => u32::from(error.number()),
     }
-    number as u32
 }
 
 // The entries go to `entries`, 20 bytes each, the bytes of literals to `literals`, and seven numbers of four bytes to `answer`:

@@ -2,17 +2,15 @@
 ghost use Rattle.std.specs.Prelude.{◌≡◌};
 ghost use Rattle.stew.specs.WriteAnswer.{short_write_number, write_returned, out_of, write_answer};
 
-use fault::Fault;
-use lent::Written;
+use lex_error::LexError;
 
 fn short_number(body: &[u8]) -> u32
     ensures { result ≡ short_write_number body.now }
 {
-    let number = door::text(body);
-    if number == 0 {
-        return Fault::NO_LITERAL_ROOM as u32;
+    match door::text(body) {
+        Ok(()) => u32::from(LexError::NoLiteralRoom.number()),
+        Err(error) => u32::from(error.number()),
     }
-    number as u32
 }
 
 // The literal goes to `out`, and its length in four bytes to `answer`. Returns 0 or the refusal's number. Where `answer` is
@@ -25,15 +23,14 @@ pub fn stew_raw_write(body: &[u8], out: &mut [u8], answer: &mut [u8]) -> u32
     if answer.len() < 4 {
         return short_number(body);
     }
-    let w = raw_writer::raw_write(body, &mut *out);
-    match w {
+    match raw_writer::raw_write(body, out) {
         Ok(len) => {
-            numbers::put(len as u64, 4, &mut *answer, 0);
-            return 0;
+            numbers::put(len as u64, 4, answer, 0);
+            0
         }
-        Err(number) => {
-            numbers::put(0, 4, &mut *answer, 0);
-            return number as u32;
+        Err(error) => {
+            numbers::put(0, 4, answer, 0);
+            u32::from(error.number())
         }
     }
 }

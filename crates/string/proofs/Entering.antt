@@ -1,11 +1,12 @@
 -- The entry, for each way through the code: the arguments refused, the scan refused, the scan accepted and its body written. Assumes nothing.
-use Rattle.std.specs.Prelude.{Err}
+use Rattle.lex_error.specs.declared.LexError.{LexError}
+use Rattle.lex_error.specs.Numbers.{Asked}
+use Rattle.std.specs.Prelude.{Err, Ok}
 use Prim.Native.Nat.{ℕ, ◌≤◌}
 use native.Mathlib.Omega.{arith}
 use mathlib.Core.List.{List}
 use mathlib.Core.Path.{◌≡◌, sym, ◌∙◌}
 use lib.ListN.{length}
-use borrow.Author.Tests.{eq-eqb, ne_eqb}
 use Rattle.basis.specs.Store.{over}
 use Rattle.position.specs.declared.Position.{Position}
 use Rattle.white.specs.White.{is_white}
@@ -18,18 +19,18 @@ use Rattle.literal.proofs.Turns.{cut_fails}
 use Rattle.literal.proofs.Limits.{accepted_whole}
 use Rattle.literal.specs.Answers.{as_given, full}
 use Rattle.string.specs.Reading.{string_reading}
-use Rattle.string.specs.Entry.{argument_number, string_trace, scan_of}
+use Rattle.string.specs.Entry.{argument_refuses, string_trace, scan_of}
 
-module _ (t : List ℕ) (at : ℕ) (p : Position) (q limit room : ℕ) {n : ℕ} (e : n ≡ argument_number t at p q) where
+module _ (t : List ℕ) (at : ℕ) (p : Position) (q limit room : ℕ) {n : Asked} (e : n ≡ argument_refuses t at p q) where
   -- the arguments
-  pub argument_refused : (n ≡ 0 → ⊥) → {r : Scanned} → r ≡ Err (as_given n (cursor at p)) → r ≡ scan_of t at p q limit room
+  pub argument_refused : {x : LexError} → n ≡ Err x → {r : Scanned} → r ≡ Err (as_given x (cursor at p)) → r ≡ scan_of t at p q limit room
   unfolding scan_of string_trace
-  argument_refused z k = rw (← e, ne_eqb n 0 z, k) (sym (cut_fails (full (cursor at p)) limit room 0 (as_given n (cursor at p))))
+  argument_refused {x} z k = rw (sym e ∙ z, k) (sym (cut_fails (full (cursor at p)) limit room 0 (as_given x (cursor at p))))
 
-  module _ (z : n ≡ 0) where
+  module _ {u : Unit {0}} (z : n ≡ Ok u) where
     admits : string_trace t at p q ≡ string_reading is_white t q (cursor at p)
     unfolding string_trace
-    admits = rw (eq-eqb (argument_number t at p q) 0 (sym e ∙ z))
+    admits = rw (sym e ∙ z)
 
     module _ {r : Scanned} (m : r ≡ cut (full (cursor at p)) limit room 0 (string_reading is_white t q (cursor at p))) where
       pub scans : r ≡ scan_of t at p q limit room

@@ -1,21 +1,23 @@
 -- Demand 3 for a string literal: its limits are 7 and its own refusals are not, so what holds of any such reading holds of it. Assumes nothing.
 use Rattle.literal.specs.Scans.{accepted_as}
-use Rattle.std.specs.Prelude.{Err}
+use Rattle.lex_error.specs.Numbers.{Asked, number_of, asked_then, on_asked}
+use Rattle.fault.specs.Faults.{number}
+use Rattle.utf8.specs.Table.{chars, well, edge}
+use Rattle.std.specs.Prelude.{Err, Ok}
 use Prim.Native.Nat.{ℕ, ◌≤◌}
 use native.Mathlib.Omega.{arith}
 use mathlib.Core.Bool.{false}
 use mathlib.Core.List.{List}
 use mathlib.Core.Path.{◌≡◌, refl}
-use lib.Dec.{eqb}
+use lib.Dec.{eqb, ltb}
 use lib.ListN.{length}
 use Rattle.basis.proofs.Cases.{pick_cases}
 use Rattle.position.specs.declared.Position.{Position}
 use Rattle.position.specs.Place.{on_line, begins_line}
 use Rattle.chars.specs.Cursors.{cursor}
-use Rattle.door.specs.Door.{door_of}
-use Rattle.door.proofs.Doors.{door_small}
+use Rattle.door.specs.Door.{text_of, door_of}
 use Rattle.white.specs.White.{is_white}
-use Rattle.literal.specs.Trace.{bytes, final, good, passes}
+use Rattle.literal.specs.Trace.{fails, bytes, final, good, passes}
 use Rattle.literal.specs.Cut.{answer}
 use Rattle.literal.specs.Told.{refusal_number}
 use Rattle.literal.specs.Limits.{FairTrace, Looser, string_limit, literal_room, Cuts}
@@ -23,33 +25,47 @@ use Rattle.literal.specs.declared.End.{End}
 use Rattle.literal.specs.declared.Refusal.{Refusal}
 use Rattle.literal.proofs.Limits.{accepted_whole, uncut_within, recurs_whole, cut_at_the_first}
 use Rattle.classes.specs.Marks.{quote, apostrophe, backtick}
-use Rattle.literal.specs.Answers.{full}
+use Rattle.literal.specs.Answers.{as_given, full}
+use Rattle.string.specs.Reading.{string_reading}
 use Rattle.string.proofs.Limits.{reading_fair_trace}
-use Rattle.string.specs.Entry.{start_number, argument_number, string_trace, scan_of}
+use Rattle.string.specs.Entry.{start_refuses, argument_refuses, string_trace, scan_of}
 
 -- the refusals of the arguments are 1, 2 and 3
-small : ℕ → Type 0
-small n = n ≤ 3
+Early : Asked → Type 0
+Early (Ok u) = Unit {0}
+Early (Err e) = number_of e ≤ 3
 
-start_small : (p : Position) (q : ℕ) → start_number p q ≤ 3
-unfolding start_number small
-start_small p q =
-    pick_cases small (on_line p) _ _
-    (λ _. pick_cases small (eqb q quote) _ _ (λ _. pick_cases small (begins_line p) _ _ (λ _. omega arith) (λ _. omega arith))
-    (λ _. pick_cases small (eqb q apostrophe) _ _ (λ _. omega arith) (λ _. pick_cases small (eqb q backtick) _ _ (λ _. omega arith) (λ _. omega arith))))
+start_early : (p : Position) (q : ℕ) → Early (start_refuses p q)
+unfolding start_refuses Early
+start_early p q =
+    pick_cases Early (on_line p) _ _
+    (λ _. pick_cases Early (eqb q quote) _ _ (λ _. pick_cases Early (begins_line p) _ _ (λ _. omega arith) (λ _. tt))
+    (λ _. pick_cases Early (eqb q apostrophe) _ _ (λ _. tt) (λ _. pick_cases Early (eqb q backtick) _ _ (λ _. tt) (λ _. omega arith))))
     (λ _. omega arith)
 
-argument_small : (t : List ℕ) (at : ℕ) (p : Position) (q : ℕ) → argument_number t at p q ≤ 3
-unfolding argument_number small
-argument_small t at p q = pick_cases small (eqb (door_of t at) 0) _ _ (λ _. start_small p q) (λ _. door_small t at)
+then_early : (a b : Asked) → Early a → Early b → Early (asked_then a b)
+unfolding Early
+then_early (Ok u) b h k = k
+then_early (Err e) b h k = h
+
+door_early : (t : List ℕ) (at : ℕ) → Early (door_of t at)
+unfolding door_of text_of Early
+door_early t at =
+    then_early (text_of t) _
+    (pick_cases Early (ltb 16777216 (length t)) _ _ (λ _. omega arith) (λ _. pick_cases Early (well t) _ _ (λ _. tt) (λ _. omega arith)))
+    (pick_cases Early (edge (chars t) at) _ _ (λ _. tt) (λ _. omega arith))
+
+argument_early : (t : List ℕ) (at : ℕ) (p : Position) (q : ℕ) → Early (argument_refuses t at p q)
+unfolding argument_refuses
+argument_early t at p q = then_early (door_of t at) (start_refuses p q) (door_early t at) (start_early p q)
 
 pub trace_fair_trace : (t : List ℕ) (at : ℕ) (p : Position) (q : ℕ) → FairTrace p (string_trace t at p q)
-unfolding string_trace
-trace_fair_trace t at p q =
-    let h = argument_small t at p q in
-    pick_cases (FairTrace p) (eqb (argument_number t at p q) 0) _ _
-    (λ _. reading_fair_trace is_white t q (cursor at p))
-    (λ _. (λ e. omega arith, λ e. omega arith, λ e. omega arith))
+unfolding string_trace Early
+trace_fair_trace t at p q = by (argument_refuses t at p q) (argument_early t at p q)
+  where
+    by : (a : Asked) → Early a → FairTrace p (on_asked a (string_reading is_white t q (cursor at p)) (λ e. fails (as_given e (cursor at p))))
+    by (Ok u) h = reading_fair_trace is_white t q (cursor at p)
+    by (Err e) h = (λ y. omega arith, λ y. omega arith, λ y. omega arith)
 
 -- demand 3 of the scan
 module _ (t : List ℕ) (at : ℕ) (p : Position) (q : ℕ) where
@@ -73,7 +89,7 @@ module _ (t : List ℕ) (at : ℕ) (p : Position) (q : ℕ) where
 
   -- 7 comes at the first test that finds more than the limit, 9 at the first step that passes the room, and only there
   pub scan_cut : (limit room : ℕ) (f : Refusal) → scan_of t at p q limit room ≡ Err f
-      → (f.fault.number ≡ 7 → Cuts (full (cursor at p)) limit room 0 (string_trace t at p q) string_limit f)
-      × (f.fault.number ≡ 9 → Cuts (full (cursor at p)) limit room 0 (string_trace t at p q) literal_room f)
+      → (number f.fault ≡ 7 → Cuts (full (cursor at p)) limit room 0 (string_trace t at p q) string_limit f)
+      × (number f.fault ≡ 9 → Cuts (full (cursor at p)) limit room 0 (string_trace t at p q) literal_room f)
   unfolding scan_of
   scan_cut limit room f h = cut_at_the_first (full (cursor at p)) limit room p (string_trace t at p q) f refl (trace_fair_trace t at p q) h

@@ -22,7 +22,7 @@ use Rattle.escape.specs.Whole.{WholeAt, none, stands, itself}
 use Rattle.escape.specs.declared.WholeEscape.{WholeEscape}
 use Rattle.escape.specs.declared.Escaped.TheVariants as escaped
 use Rattle.string_turn.specs.Kinds.{is_verbatim, is_continued}
-use Rattle.string_turn.specs.Take.{scanning, is_empty, take_of}
+use Rattle.string_turn.specs.Take.{scanning, take_of}
 use Rattle.string_turn.specs.declared.take.Scanning.{Scanning}
 use Rattle.string_turn.specs.Act.{close_of, line_feed_of, escape_of, add_of, plain_of, other_of, match_of, act_of}
 use Rattle.string_turn.specs.Answer.{Acted, got_char, goes_with}

@@ -16,7 +16,7 @@ use Rattle.chars.proofs.Cursors.{ate, got}
 use Rattle.classes.specs.Marks.{lf, cr, dollar, backslash, backtick, left_brace}
 use Rattle.escape.specs.Escapes.{no_char}
 use Rattle.string_turn.specs.Kinds.{is_verbatim, is_interpolated}
-use Rattle.string_turn.specs.Take.{scanning, is_empty, next_is, dollar_of, take_of}
+use Rattle.string_turn.specs.Take.{scanning, next_is, dollar_of, take_of}
 use Rattle.string_turn.specs.declared.take.Scanning.{Scanning}
 use Rattle.string_turn.specs.Act.{close_of, line_feed_of, add_of, plain_of, other_of, match_of, act_of}
 use Rattle.string.proofs.Readings.{Once, once_on, Twice, twice_on}

@@ -18,7 +18,9 @@
 -- | backtick   | `ab${`, limit 1              | 7                                  | nothing   |
 --
 -- Each row is proved in proofs/Returns.antt.
-use Rattle.std.specs.Prelude.{ℕ, eqb}
+use Rattle.lex_error.specs.declared.LexError.TheVariants.{BadArgument}
+use Rattle.lex_error.specs.Numbers.{Asked, no_refusal, asked_then, on_asked}
+use Rattle.std.specs.Prelude.{ℕ, eqb, Err}
 use Rattle.basis.specs.Types.{Code, Offset, Text}
 use Rattle.basis.specs.Pick.{pick}
 use Rattle.position.specs.declared.Position.{Position}
@@ -34,20 +36,20 @@ use Rattle.literal.specs.Answers.{as_given, full}
 use Rattle.string.specs.Reading.{string_reading}
 
 -- 3: the place is on no line, an ordinary literal starts at column 0, or the terminator is none of the three
-unfoldable pub start_number : Position → Code → ℕ
-start_number p q =
+unfoldable pub start_refuses : Position → Code → Asked
+start_refuses p q =
     pick (on_line p)
-    (pick (eqb q quote) (pick (begins_line p) 3 0)
-    (pick (eqb q apostrophe) 0
-    (pick (eqb q backtick) 0 3))) 3
+    (pick (eqb q quote) (pick (begins_line p) (Err BadArgument) no_refusal)
+    (pick (eqb q apostrophe) no_refusal
+    (pick (eqb q backtick) no_refusal (Err BadArgument)))) (Err BadArgument)
 
--- the number of the refusal of the arguments, 0 for none: 2, 1, 3
-unfoldable pub argument_number : Text → Offset → Position → Code → ℕ
-argument_number t at p q = pick (eqb (door_of t at) 0) (start_number p q) (door_of t at)
+-- what the arguments refuse: 2, 1, 3
+unfoldable pub argument_refuses : Text → Offset → Position → Code → Asked
+argument_refuses t at p q = asked_then (door_of t at) (start_refuses p q)
 
 -- the reading, with the refusals of the arguments in front
 unfoldable pub string_trace : Text → Offset → Position → Code → Trace
-string_trace t at p q = pick (eqb (argument_number t at p q) 0) (string_reading is_white t q (cursor at p)) (fails (as_given (argument_number t at p q) (cursor at p)))
+string_trace t at p q = on_asked (argument_refuses t at p q) (string_reading is_white t q (cursor at p)) (λ e. fails (as_given e (cursor at p)))
 
 -- the scan's answer
 unfoldable pub scan_of : Text → Offset → Position → Code → ℕ → ℕ → Scanned

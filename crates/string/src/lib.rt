@@ -6,45 +6,40 @@ pub mod scan;
 
 ghost use Rattle.std.specs.Prelude.{◌≡◌, length};
 ghost use Rattle.literal.specs.Cut.{wrote};
-ghost use Rattle.string.specs.Entry.{start_number, argument_number, string_trace, scan_of};
+ghost use Rattle.string.specs.Entry.{start_refuses, argument_refuses, string_trace, scan_of};
 
 use chars::cursor::Cursor;
 use classes::marks::{APOSTROPHE, BACKTICK, QUOTE};
-use fault::Fault;
+use lex_error::LexError;
 use literal::{Refusal, Scanned};
 use position::Position;
 
-// Whether a literal with the terminator may start at a place: 0, or 3.
-fn start_number(p: Position, q: u32) -> u8
-    ensures { result ≡ start_number p q }
+// Whether a literal with the terminator may start at a place; else 3.
+fn start_refuses(p: Position, q: u32) -> Result<(), LexError>
+    ensures { result ≡ start_refuses p q }
 {
-    if p.is_on_line() {
-        if q == QUOTE {
-            if p.is_beginning_of_line() {
-                return Fault::BAD_ARGUMENT;
-            }
-            return 0;
-        }
-        if q == APOSTROPHE {
-            return 0;
-        }
-        if q == BACKTICK {
-            return 0;
-        }
-        return Fault::BAD_ARGUMENT;
+    if !p.is_on_line() {
+        return Err(LexError::BadArgument);
     }
-    Fault::BAD_ARGUMENT
+    match q {
+        QUOTE => {
+            if p.is_beginning_of_line() {
+                Err(LexError::BadArgument)
+            } else {
+                Ok(())
+            }
+        }
+        APOSTROPHE | BACKTICK => Ok(()),
+        _ => Err(LexError::BadArgument),
+    }
 }
 
-// The number of the refusal of the arguments, 0 for none.
-fn argument_number(text: &[u8], at: usize, p: Position, q: u32) -> u8
-    ensures { result ≡ argument_number text.now at p q }
+// What the arguments refuse.
+fn argument_refuses(text: &[u8], at: usize, p: Position, q: u32) -> Result<(), LexError>
+    ensures { result ≡ argument_refuses text.now at p q }
 {
-    let d = door::door(text, at);
-    if d == 0 {
-        return start_number(p, q);
-    }
-    d
+    door::door(text, at)?;
+    start_refuses(p, q)
 }
 
 // A string literal, entered after its opening terminator, which stands at the place given; a text
@@ -62,12 +57,11 @@ pub fn parse_string_literal(
     ensures out_after { out.new ≡ wrote result (string_trace text.now at place terminator) out.old }
 {
     let from = Cursor { at, place };
-    let number = argument_number(text, at, place, terminator);
-    if number == 0 {
-        let room = out.len();
-        let mut aside: [u8; 1] = [0; 1];
-        scan::scan(text, from, terminator, limit, room, &mut aside)?;
-        return scan::scan(text, from, terminator, limit, room, out);
+    if let Err(error) = argument_refuses(text, at, place, terminator) {
+        return Err(Refusal::as_given(error, from));
     }
-    Err(Refusal::as_given(number, from))
+    let room = out.len();
+    let mut aside: [u8; 1] = [0; 1];
+    scan::scan(text, from, terminator, limit, room, &mut aside)?;
+    scan::scan(text, from, terminator, limit, room, out)
 }

@@ -1,5 +1,5 @@
 // The scan of a string literal: the Rust's `parse_string_literal`, with its body written into lent bytes as far as it has room there.
-ghost use Rattle.std.specs.Prelude.{true, ◌≡◌, ◌-◌, ◌≤◌, ◌<◌, length, get_or, take, drop};
+ghost use Rattle.std.specs.Prelude.{true, ◌≡◌, ◌-◌, ◌≤◌, ◌<◌, length, get_or, take, drop, IfSome};
 ghost use Rattle.basis.specs.Store.{stored};
 ghost use Rattle.white.specs.White.{is_white};
 ghost use Rattle.utf8.specs.Encode.{encoded};
@@ -15,7 +15,7 @@ ghost use Rattle.string.specs.Standing.{ScanLeads, ScanLeadsAnywhere};
 
 use chars::cursor::Cursor;
 use classes::marks::{APOSTROPHE, BACKSLASH, BACKTICK, CR, DOLLAR, LEFT_BRACE, LF, QUOTE, SPACE};
-use fault::Fault;
+use lex_error::LexError;
 use literal::{Refusal, Scanned, Terminator};
 use position::Position;
 use std::ops::ControlFlow;
@@ -40,7 +40,7 @@ struct Clear {
 }
 
 // What is read at once and adds one character or none: its bytes, the place behind it, below which column white space is skipped
-// there, and whether a plain byte is likely to stand behind it. It has no byte where nothing is read.
+// there, and whether a plain byte is likely to stand behind it.
 #[derive(Clone, Copy)]
 struct Unit {
     c: u32,
@@ -50,14 +50,6 @@ struct Unit {
     more: bool,
 }
 
-const NONE: Unit = Unit {
-    c: escape::NOTHING,
-    width: 0,
-    place: Position::NONE,
-    skip: 0,
-    more: false,
-};
-
 // A turn under a limit: as Acted, or the answer.
 type LimitedTurn = ControlFlow<Scanned, (u32, usize, Scanning)>;
 
@@ -65,19 +57,13 @@ type LimitedTurn = ControlFlow<Scanned, (u32, usize, Scanning)>;
 fn size(c: u32) -> usize
     ensures { result ≡ length (encoded c) }
 {
-    if c < 0x80 {
-        return 1;
+    match c {
+        0..=0x7F => 1,
+        _ if !utf8::is_scalar(c) => 0,
+        0x80..=0x7FF => 2,
+        0x800..=0xFFFF => 3,
+        _ => 4,
     }
-    if utf8::is_scalar(c) {
-        if c < 0x800 {
-            return 2;
-        }
-        if c < 0x10000 {
-            return 3;
-        }
-        return 4;
-    }
-    0
 }
 
 // How a scan is over under a limit, with a body of n bytes.
@@ -85,28 +71,18 @@ fn answered(start: Position, limit: usize, n: usize, last: Last) -> Scanned
     ensures { LimitAnswers limit n (last_of start last) result }
 {
     match last {
-        Ok(end) => {
-            if literal::is_over(limit, n) {
-                return Err(Refusal::too_long(start, end.cursor, end.on_record));
-            }
-            return Ok((end, n));
+        Ok(end) if literal::is_over(limit, n) => {
+            Err(Refusal::too_long(start, end.cursor, end.on_record))
         }
-        Err(refusal) => {
-            return Err(refusal);
-        }
+        Ok(end) => Ok((end, n)),
+        Err(refusal) => Err(refusal),
     }
 }
 
 fn is_terminator(q: u32) -> bool
     ensures { result ≡ true → TerminatorOf q }
 {
-    if q == QUOTE {
-        return true;
-    }
-    if q == APOSTROPHE {
-        return true;
-    }
-    q == BACKTICK
+    matches!(q, QUOTE | APOSTROPHE | BACKTICK)
 }
 
 // The byte at an offset; at the end 0, which no rule names.
@@ -120,143 +96,124 @@ fn byte_at(text: &[u8], at: usize) -> u32
 }
 
 // A doubled terminator gives itself, where the first place is set and no white space is skipped.
-fn doubled(text: &[u8], q: u32, here: Clear) -> Unit
+fn doubled(text: &[u8], q: u32, here: Clear) -> Option<Unit>
     requires { TerminatorOf q × StandsAt text.now here.at q }
-    ensures { (result.width ≡ 0 → ⊥) → ReadsAnywhere text.now q here result }
+    ensures { IfSome result (λ u. ReadsAnywhere text.now q here u) }
 {
-    if 0 < here.skip {
-        return NONE;
+    if 0 < here.skip || here.first.is_none() || byte_at(text, here.at + 1) != q {
+        return None;
     }
-    let first = here.first;
-    if first.is_none() {
-        return NONE;
-    }
-    if byte_at(text, here.at + 1) == q {
-        return Unit {
-            c: q,
-            width: 2,
-            place: here.place.advanced_by(2),
-            skip: 0,
-            more: byte_at(text, here.at + 2) != q,
-        };
-    }
-    NONE
+    Some(Unit {
+        c: q,
+        width: 2,
+        place: here.place.advanced_by(2),
+        skip: 0,
+        more: byte_at(text, here.at + 2) != q,
+    })
 }
 
 // In text, a CR before LF vanishes.
-fn feed(text: &[u8], here: Clear) -> Unit
+fn feed(text: &[u8], here: Clear) -> Option<Unit>
     requires { StandsAt text.now here.at cr }
-    ensures { (result.width ≡ 0 → ⊥) → ReadsAnywhere text.now backtick here result }
+    ensures { IfSome result (λ u. ReadsAnywhere text.now backtick here u) }
 {
-    if byte_at(text, here.at + 1) == LF {
-        return Unit {
-            c: LF,
-            width: 2,
-            place: here.place.advanced_by(2).lined(),
-            skip: here.skip,
-            more: false,
-        };
+    if byte_at(text, here.at + 1) != LF {
+        return None;
     }
-    NONE
+    Some(Unit {
+        c: LF,
+        width: 2,
+        place: here.place.advanced_by(2).lined(),
+        skip: here.skip,
+        more: false,
+    })
 }
 
 // In text, `\$` before `{` gives `$`, one column for both.
-fn sign(text: &[u8], here: Clear) -> Unit
+fn sign(text: &[u8], here: Clear) -> Option<Unit>
     requires { StandsAt text.now here.at backslash }
-    ensures { (result.width ≡ 0 → ⊥) → ReadsAnywhere text.now backtick here result }
+    ensures { IfSome result (λ u. ReadsAnywhere text.now backtick here u) }
 {
-    if byte_at(text, here.at + 1) == DOLLAR {
-        if byte_at(text, here.at + 2) == LEFT_BRACE {
-            return Unit {
-                c: DOLLAR,
-                width: 2,
-                place: here.place.advanced(),
-                skip: 0,
-                more: true,
-            };
-        }
-        return NONE;
+    if byte_at(text, here.at + 1) == DOLLAR && byte_at(text, here.at + 2) == LEFT_BRACE {
+        return Some(Unit {
+            c: DOLLAR,
+            width: 2,
+            place: here.place.advanced(),
+            skip: 0,
+            more: true,
+        });
     }
-    NONE
+    None
 }
 
 // A backslash, but in text: an ordinary literal goes on behind the end of a line, where white space up to the start's column is
 // skipped; else a whole escape.
-fn escaped(text: &[u8], q: u32, start: Position, here: Clear) -> Unit
+fn escaped(text: &[u8], q: u32, start: Position, here: Clear) -> Option<Unit>
     requires { TerminatorOf q × (q ≡ backtick → ⊥) × StandsAt text.now here.at backslash }
-    ensures { (result.width ≡ 0 → ⊥) → Reads text.now q start here result }
+    ensures { IfSome result (λ u. Reads text.now q start here u) }
 {
     if byte_at(text, here.at + 1) == LF {
         if q == QUOTE {
-            return Unit {
+            return Some(Unit {
                 c: escape::NOTHING,
                 width: 2,
                 place: here.place.advanced_by(2).lined(),
                 skip: start.column_number() as usize + 1,
                 more: false,
-            };
+            });
         }
-        return NONE;
+        return None;
     }
     let whole = escape::whole_at(text, q, here.at);
+    if whole.width == 0 {
+        return None;
+    }
     let skip = here.skip;
-    Unit {
+    Some(Unit {
         c: whole.c,
         width: whole.width,
         place: here.place.advanced_by(whole.width),
         skip,
         more: false,
-    }
+    })
 }
 
 // Behind the end of a line, a space that is skipped gives nothing.
-fn skipped(text: &[u8], q: u32, here: Clear) -> Unit
+fn skipped(text: &[u8], q: u32, here: Clear) -> Option<Unit>
     requires { TerminatorOf q × (q ≡ backtick → ⊥) × StandsAt text.now here.at space }
-    ensures { (result.width ≡ 0 → ⊥) → ReadsAnywhere text.now q here result }
+    ensures { IfSome result (λ u. ReadsAnywhere text.now q here u) }
 {
     let place = here.place.advanced();
     let below = here.skip;
     if (place.column_number() as usize) < below {
-        return Unit {
+        return Some(Unit {
             c: escape::NOTHING,
             width: 1,
             place,
             skip: below,
             more: false,
-        };
+        });
     }
-    NONE
+    None
 }
 
 // What is read at once where a scan stands.
-fn unit_at(text: &[u8], q: u32, start: Position, here: Clear) -> Unit
+fn unit_at(text: &[u8], q: u32, start: Position, here: Clear) -> Option<Unit>
     requires { TerminatorOf q }
-    ensures { (result.width ≡ 0 → ⊥) → Reads text.now q start here result }
+    ensures { IfSome result (λ u. Reads text.now q start here u) }
 {
     let at = here.at;
     if text.len() <= at {
-        return NONE;
+        return None;
     }
-    let b = text[at] as u32;
-    if b == q {
-        return doubled(text, q, here);
+    match text[at] as u32 {
+        b if b == q => doubled(text, q, here),
+        CR if q == BACKTICK => feed(text, here),
+        BACKSLASH if q == BACKTICK => sign(text, here),
+        BACKSLASH => escaped(text, q, start, here),
+        SPACE if q != BACKTICK => skipped(text, q, here),
+        _ => None,
     }
-    if q == BACKTICK {
-        if b == CR {
-            return feed(text, here);
-        }
-        if b == BACKSLASH {
-            return sign(text, here);
-        }
-        return NONE;
-    }
-    if b == BACKSLASH {
-        return escaped(text, q, start, here);
-    }
-    if b == SPACE {
-        return skipped(text, q, here);
-    }
-    NONE
 }
 
 // A turn with n bytes in the body: the limit is tested between taking a character and acting on it.
@@ -271,24 +228,19 @@ fn turn(
 ) -> LimitedTurn
     ensures { Tells limit n text.now q start at s result }
 {
-    match string_turn::take::take(text, q, start, at, s) {
+    let (c, here) = match string_turn::take::take(text, q, start, at, s) {
+        ControlFlow::Continue(taken) => taken,
         ControlFlow::Break(last) => {
             return ControlFlow::Break(answered(start, limit, n, last));
         }
-        ControlFlow::Continue((c, here)) => {
-            if literal::is_over(limit, n) {
-                let on_record = Terminator { c: q, times: 1 };
-                return ControlFlow::Break(Err(Refusal::too_long(start, here, on_record)));
-            }
-            match string_turn::act::act(text, q, start, c, here, s) {
-                ControlFlow::Break(last) => {
-                    return ControlFlow::Break(answered(start, limit, n, last));
-                }
-                ControlFlow::Continue((d, next, r)) => {
-                    return ControlFlow::Continue((d, next, r));
-                }
-            }
-        }
+    };
+    if literal::is_over(limit, n) {
+        let on_record = Terminator { c: q, times: 1 };
+        return ControlFlow::Break(Err(Refusal::too_long(start, here, on_record)));
+    }
+    match string_turn::act::act(text, q, start, c, here, s) {
+        ControlFlow::Break(last) => ControlFlow::Break(answered(start, limit, n, last)),
+        ControlFlow::Continue(acted) => ControlFlow::Continue(acted),
     }
 }
 
@@ -332,28 +284,20 @@ fn add_byte(text: &[u8], q: u32, limit: usize, room: usize, here: Clear, out: &m
     requires { TerminatorOf q × (here.n ≤ room) }
     ensures { ScanLeadsAnywhere text.now q limit room (stand_of here) out.old (stand_of result) out.new }
 {
-    let below = here.skip;
-    if below != 0 {
+    if here.skip != 0 || literal::most(limit, room, here.n) == 0 {
         return here;
     }
     let at = here.at;
     let place = here.place;
     let first = here.first;
-    let n = here.n;
-    if literal::most(limit, room, n) == 0 {
-        return here;
-    }
     let stood = string_turn::take::pass_byte(text, q, Stood { at, place, first });
-    let end = stood.at;
-    copy(text, at, end, out, n);
-    let place = stood.place;
-    let first = stood.first;
+    copy(text, at, stood.at, out, here.n);
     Clear {
-        at: end,
-        place,
-        first,
+        at: stood.at,
+        place: stood.place,
+        first: stood.first,
         skip: 0,
-        n: n + (end - at),
+        n: here.n + (stood.at - at),
     }
 }
 
@@ -383,10 +327,9 @@ fn add_unit(
     if literal::is_over(limit, here.n) {
         return here;
     }
-    let unit = unit_at(text, q, start, here);
-    if unit.width == 0 {
+    let Some(unit) = unit_at(text, q, start, here) else {
         return here;
-    }
+    };
     let m = size(unit.c);
     if room - n < m {
         return here;
@@ -418,19 +361,15 @@ fn add_stretch(text: &[u8], q: u32, limit: usize, room: usize, here: Clear, out:
     let at = here.at;
     let place = here.place;
     let first = here.first;
-    let n = here.n;
-    let most = literal::most(limit, room, n);
+    let most = literal::most(limit, room, here.n);
     let stood = string_turn::take::pass(text, q, most, Stood { at, place, first });
-    let to = stood.at;
-    copy(text, at, to, out, n);
-    let place = stood.place;
-    let first = stood.first;
+    copy(text, at, stood.at, out, here.n);
     Clear {
-        at: to,
-        place,
-        first,
+        at: stood.at,
+        place: stood.place,
+        first: stood.first,
         skip: 0,
-        n: n + (to - at),
+        n: here.n + (stood.at - at),
     }
 }
 
@@ -508,20 +447,12 @@ fn lead(
     requires { from.n ≤ room }
     ensures { ScanLeads text.now q start limit room from out.old result out.new }
 {
-    if is_terminator(q) {
-        let s = from.state;
-        let pending = s.escape;
-        match pending {
-            Some(_) => {
-                return from;
-            }
-            None => {
-                let here = cleared(from.at, s, from.n);
-                return standing(ahead(text, q, start, limit, room, here, out));
-            }
-        }
+    let s = from.state;
+    if !is_terminator(q) || s.escape.is_some() {
+        return from;
     }
-    from
+    let here = cleared(from.at, s, from.n);
+    standing(ahead(text, q, start, limit, room, here, out))
 }
 
 // The scan of a literal whose start is the cursor's place: how it ends and the length of the body, within a limit and a
@@ -555,7 +486,7 @@ pub fn scan(text: &[u8], from: Cursor, q: u32, limit: usize, room: usize, out: &
             ControlFlow::Continue((d, next, r)) => {
                 let m = size(d);
                 if room - n < m {
-                    return Err(Refusal::as_given(Fault::NO_LITERAL_ROOM, from));
+                    return Err(Refusal::as_given(LexError::NoLiteralRoom, from));
                 }
                 utf8::encoder::put(d, &mut *out, n);
                 n += m;

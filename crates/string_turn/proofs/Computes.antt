@@ -2,7 +2,7 @@
 use Rattle.white.specs.White.{is_white}
 use Rattle.string_turn.specs.Kinds.{is_verbatim, is_continued, is_interpolated}
 use Rattle.string_turn.specs.Endings.{unterminated_at, malformed_at}
-use Rattle.string_turn.specs.Take.{is_empty, next_is, input_end, dollar_of, take_of}
+use Rattle.string_turn.specs.Take.{next_is, input_end, dollar_of, take_of}
 use Rattle.string_turn.specs.Act.{close_of, line_feed_of, escape_of, add_of, plain_of, other_of, match_of, act_of}
 
 -- a character is taken

@@ -1,4 +1,3 @@
 pub mod Reaching
-pub mod Acts
 pub mod Lands
 pub mod Small

@@ -5,6 +5,7 @@ ghost use Rattle.string_turn.specs.Kinds.{is_verbatim, is_continued, is_interpol
 use classes::marks::{BACKTICK, QUOTE};
 
 // Text keeps its line feeds, and has no escapes.
+#[tactic(auto, unfolding(crate::specs::Kinds::is_verbatim))]
 pub(crate) fn is_verbatim(q: u32) -> bool
     ensures { result ≡ is_verbatim q }
 {
@@ -12,6 +13,7 @@ pub(crate) fn is_verbatim(q: u32) -> bool
 }
 
 // An ordinary literal goes on behind a backslash at the end of a line.
+#[tactic(auto, unfolding(crate::specs::Kinds::is_continued))]
 pub(crate) fn is_continued(q: u32) -> bool
     ensures { result ≡ is_continued q }
 {
@@ -19,6 +21,7 @@ pub(crate) fn is_continued(q: u32) -> bool
 }
 
 // A piece of text ends at `${`.
+#[tactic(auto, unfolding(crate::specs::Kinds::is_interpolated))]
 pub(crate) fn is_interpolated(q: u32) -> bool
     ensures { result ≡ is_interpolated q }
 {

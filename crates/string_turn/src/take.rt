@@ -10,6 +10,7 @@ use crate::kinds;
 use chars::cursor::Cursor;
 use classes::marks::{BACKSLASH, BACKTICK, CR, DOLLAR, LEFT_BRACE, LF};
 use fault::Fault;
+use lex_error::LexError;
 use literal::{End, Refusal, Terminator};
 use position::Position;
 use std::ops::ControlFlow;
@@ -39,102 +40,77 @@ pub struct Stood {
 pub type Got = ControlFlow<Last, (u32, Cursor)>;
 
 // Whether the character at an offset is c.
+#[tactic(auto, unfolding(crate::specs::Take::next_is))]
 pub(crate) fn next_is(text: &[u8], at: usize, c: u32) -> bool
     ensures { result ≡ next_is text.now at c }
 {
-    let Some((d, _)) = utf8::look_at(text, at) else {
-        return false;
-    };
-    d == c
+    matches!(utf8::look_at(text, at), Some((d, _)) if d == c)
 }
 
 // 4, at the start of the literal: the record is cleared.
+#[tactic(auto, unfolding(crate::specs::Endings::unterminated_at))]
 pub(crate) fn unterminated(start: Position, here: Cursor) -> Last
     ensures { result ≡ Err (unterminated_at start here) }
 {
     Err(Refusal {
-        fault: Fault::at(Fault::UNTERMINATED_STRING, start),
+        fault: Fault::at(LexError::UnterminatedString, start),
         cursor: here,
         on_record: Terminator::NONE,
     })
 }
 
 // The end of input adds a column. What may go on in a further text keeps its terminator on record.
+#[tactic(auto, unfolding(crate::specs::Take::input_end))]
 fn at_end(q: u32, start: Position, at: usize, s: Scanning) -> Last
     ensures { result ≡ input_end q start at s }
 {
     let place = s.place.advanced();
     let here = Cursor { at, place };
-    if kinds::is_verbatim(q) {
-        return still_open(q, here, s.first);
-    }
-    if kinds::is_continued(q) {
-        let escape = s.escape;
-        if escape.is_none() {
-            return unterminated(start, here);
-        }
-        return still_open(q, here, s.first);
+    if kinds::is_verbatim(q) || (kinds::is_continued(q) && s.escape.is_some()) {
+        return Ok(End {
+            cursor: here,
+            first: s.first,
+            on_record: Terminator { c: q, times: 1 },
+            interpolated: false,
+        });
     }
     unterminated(start, here)
 }
 
-// An end that is accepted with the terminator on record.
-fn still_open(q: u32, here: Cursor, first: Position) -> Last
-    ensures { result ≡ Ok (ending here first (once q) false) }
-{
-    Ok(End {
-        cursor: here,
-        first,
-        on_record: Terminator { c: q, times: 1 },
-        interpolated: false,
-    })
-}
-
 // In text, a `$` or a backslash may be about an interpolation.
+#[tactic(auto, unfolding(crate::specs::Take::dollar_of))]
 fn dollar(text: &[u8], c: u32, here: Cursor, first: Position) -> Got
     ensures { result ≡ dollar_of text.now c here first }
 {
-    if c == DOLLAR {
-        if next_is(text, here.at, LEFT_BRACE) {
-            return ControlFlow::Break(Ok(End {
-                cursor: here,
-                first,
-                on_record: Terminator::NONE,
-                interpolated: true,
-            }));
-        }
-        return ControlFlow::Continue((c, here));
-    }
-    if c == BACKSLASH {
-        let Some((d, next)) = here.get_next(text) else {
-            return ControlFlow::Continue((c, here));
-        };
-        if d == DOLLAR {
-            if next_is(text, next.at, LEFT_BRACE) {
-                return ControlFlow::Continue((DOLLAR, next));
+    match c {
+        DOLLAR if next_is(text, here.at, LEFT_BRACE) => ControlFlow::Break(Ok(End {
+            cursor: here,
+            first,
+            on_record: Terminator::NONE,
+            interpolated: true,
+        })),
+        BACKSLASH => match here.get_next(text) {
+            Some((DOLLAR, next)) if next_is(text, next.at, LEFT_BRACE) => {
+                ControlFlow::Continue((DOLLAR, next))
             }
-            return ControlFlow::Continue((c, here));
-        }
-        return ControlFlow::Continue((c, here));
+            _ => ControlFlow::Continue((c, here)),
+        },
+        _ => ControlFlow::Continue((c, here)),
     }
-    ControlFlow::Continue((c, here))
 }
 
 // The character of a turn that begins at an offset, taken with a column; or how the scan is over.
+#[tactic(auto, unfolding(crate::specs::Take::take_of))]
 pub fn take(text: &[u8], q: u32, start: Position, at: usize, s: Scanning) -> Got
     ensures { result ≡ take_of text.now q start at s }
 {
     let place = s.place;
-    let escape = s.escape;
     let from = Cursor { at, place };
     let Some((c, here)) = from.eat_next_and_advance(text) else {
         return ControlFlow::Break(at_end(q, start, at, s));
     };
-    if kinds::is_interpolated(q) {
-        if escape.is_none() {
-            return dollar(text, c, here, s.first);
-        }
-        return ControlFlow::Continue((c, here));
+    if kinds::is_interpolated(q) && s.escape.is_none() {
+        return dollar(text, c, here, s.first);
     }
     ControlFlow::Continue((c, here))
 }
@@ -161,22 +137,7 @@ fn stretch(text: &[u8], q: u32, most: usize, from: Stood) -> Stood
 fn is_plain(q: u32, b: u32) -> bool
     ensures { result ≡ true → (b < 0x80) × Plain q b }
 {
-    if b == q {
-        return false;
-    }
-    if b == BACKSLASH {
-        return false;
-    }
-    if b == DOLLAR {
-        return false;
-    }
-    if b == LF {
-        return false;
-    }
-    if b == CR {
-        return false;
-    }
-    b < 0x80
+    b < 0x80 && b != q && !matches!(b, BACKSLASH | DOLLAR | LF | CR)
 }
 
 // Passes one such byte, if one stands here. It is for places where more of them are unlikely: a stretch takes longer to begin.
@@ -204,30 +165,22 @@ pub fn pass_byte(text: &[u8], q: u32, from: Stood) -> Stood
 fn is_added(text: &[u8], c: u32, end: usize) -> bool
     ensures { result ≡ true → Added text.now end c }
 {
-    if c == LF {
-        return true;
+    match c {
+        LF => true,
+        CR => !next_is(text, end, LF),
+        DOLLAR => !next_is(text, end, LEFT_BRACE),
+        BACKSLASH => !next_is(text, end, DOLLAR),
+        _ => false,
     }
-    if c == CR {
-        return !next_is(text, end, LF);
-    }
-    if c == DOLLAR {
-        return !next_is(text, end, LEFT_BRACE);
-    }
-    if c == BACKSLASH {
-        return !next_is(text, end, DOLLAR);
-    }
-    false
 }
 
 // The place behind a character that is added: a line feed begins a line.
+#[tactic(auto, unfolding(crate::specs::Passing::place_behind))]
 fn place_behind(c: u32, p: Position) -> Position
     ensures { result ≡ place_behind c p }
 {
     let next = p.advanced();
-    if c == LF {
-        return next.lined();
-    }
-    next
+    if c == LF { next.lined() } else { next }
 }
 
 // In text, passes a character that the rules name, if a turn only adds it.
@@ -259,13 +212,11 @@ fn pass_added(text: &[u8], most: usize, from: Stood) -> Stood
     ensures at_bound { result.at ≤ from.at + most }
 {
     let mut here = from;
-    let mut left = most;
-    while 0 < left {
+    for _ in 0..most {
         let next = pass_one(text, here);
         if next.at == here.at {
             return next;
         }
-        left -= 1;
         here = next;
     }
     here

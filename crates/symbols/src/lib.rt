@@ -119,9 +119,7 @@ fn bang(text: &[u8]) -> Longest
     ensures { result ≡ bang_of (get_or text.now 1 0) (get_or text.now 2 0) (is_id_continue (get_or text.now 3 0)) }
 {
     match text {
-        [_, b'i', b'n', b, ..] if classes::is_id_continue(u32::from(*b)) => {
-            Some((BANG, 1))
-        }
+        [_, b'i', b'n', b, ..] if classes::is_id_continue(u32::from(*b)) => { Some((BANG, 1)) }
         [_, b'i', b'n', ..] => Some((NOT_IN, 3)),
         [_, b'=', ..] => Some((NOT_EQUALS_TO, 2)),
         _ => Some((BANG, 1)),

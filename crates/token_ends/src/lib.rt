@@ -4,6 +4,7 @@
 ghost use Rattle.std.specs.Prelude.{◌≡◌};
 ghost use Rattle.token_ends.specs.Ends.{record_token_of};
 
+use lex_error::LexError;
 use position::Position;
 use token::tokens;
 
@@ -14,7 +15,7 @@ pub struct TokenEnds {
     pub previous: Position,
 }
 
-pub type Recorded = Result<TokenEnds, u8>;
+pub type Recorded = Result<TokenEnds, LexError>;
 
 // Records a token that ends at a place: a comment and the end of input leave the last end alone. On line 0 it is 3, as every
 // move is.

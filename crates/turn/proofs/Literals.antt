@@ -1,9 +1,8 @@
 -- A literal, by what opens it, for each way out of the functions. Assumes nothing.
 use Rattle.script.specs.Verdicts.{all_fine}
-use Rattle.std.specs.Prelude.{Err, Ok}
+use Rattle.std.specs.Prelude.{Err}
 use Prim.Native.Nat.{ℕ, ◌+◌, ◌-◌, ◌≤◌, ◌<◌}
 use native.Mathlib.Omega.{arith}
-use native.Mathlib.Nat.{sub-zero}
 use mathlib.Core.Bool.{true, false}
 use mathlib.Core.List.{List, ◌++◌}
 use mathlib.Core.Path.{◌≡◌, refl, sym, ap, ◌∙◌}
@@ -121,7 +120,7 @@ module _ (body : List ℕ) where
     pub aside_room : length body ≤ length aside
     aside_room = let h = ap length e ∙ length-append body (drop (length body) aside) in omega arith
 
-    pub aside_stored : (l : List ℕ) (used n : ℕ) → n ≡ length body → used + length body ≤ length l → {m : List ℕ} → m ≡ stored l used (take (n - 0) (drop 0 aside)) → m ≡ sets l used body
+    pub aside_stored : (l : List ℕ) (used n : ℕ) → n ≡ length body → used + length body ≤ length l → {m : List ℕ} → m ≡ stored l used (take n aside) → m ≡ sets l used body
     aside_stored l used n q h g =
-        let front : take (n - 0) (drop 0 aside) ≡ body = rw (sub-zero n, q) (ap (take (length body)) e ∙ take-append_seam body (drop (length body) aside)) in
+        let front : take n aside ≡ body = rw (q) (ap (take (length body)) e ∙ take-append_seam body (drop (length body) aside)) in
         g ∙ rw (front) (stored_whole l used body h)

@@ -1,5 +1,5 @@
 -- Whether a well-formed text is one character: it is as long as the first character in it. Assumes nothing.
-use Rattle.std.specs.Prelude.{None, Some}
+use Rattle.std.specs.Prelude.{None, Some, MatchOption}
 use Prim.Native.Nat.{ℕ, ◌+◌, ◌≤◌, ◌<◌}
 use native.Mathlib.Omega.{arith}
 use mathlib.Core.Bool.{Bool, true, false}
@@ -21,6 +21,11 @@ use Rattle.utf8.proofs.Unicode.{well_encoded}
 abbrev pub alone : Look → ℕ → Bool
 alone (Some (c, w)) n = eqb w n
 alone None n = false
+
+-- a test of what was looked at
+pub is_alone : (o : Look) (r : Bool) (n : ℕ) {X : ℕ × ℕ → Type 0} → MatchOption o (r ≡ false) X → ((x : ℕ × ℕ) → X x → r ≡ eqb x.1 n) → r ≡ alone o n
+is_alone (Some (c, w)) r n h by = by (c, w) h
+is_alone None r n h by = h
 
 many : (c : ℕ) (cs : List ℕ) → 0 < length (encode_all (c ∷ cs))
 unfolding encode_all

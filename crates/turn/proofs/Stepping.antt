@@ -13,6 +13,7 @@ use Rattle.fault.specs.declared.Fault.{Fault}
 use Rattle.fault.specs.Faults.{still_open, no_token_room}
 use Rattle.entry.specs.Entries.{entry}
 use Rattle.entry.specs.declared.Entry.{Entry}
+use Rattle.entry.specs.declared.kinds.Kind.{Kind}
 use Rattle.chars.specs.declared.cursor.Cursor.{Cursor}
 use Rattle.find.specs.Find.{opens_text, find_of}
 use Rattle.find.specs.declared.Found.{Found}
@@ -31,7 +32,7 @@ use Rattle.turn.proofs.Reading.{stopped}
 
 module _ (b : Bounds) (n used : ℕ) (s : State) where
   -- ---- a part of the script
-  module _ (k w : ℕ) (to : Cursor) where
+  module _ (k : Kind) (w : ℕ) (to : Cursor) where
     abbrev listing : Entry
     listing = entry k (advanced s.cursor.place) s.cursor.at (to.at - s.cursor.at)
 

@@ -4,7 +4,7 @@ use Rattle.std.proofs.lemmas.List.Edits.{sets}
 use Rattle.basis.specs.Pick.{pick}
 use Rattle.position.specs.declared.Position.{Position}
 use Rattle.fault.specs.Faults.{no_token_room}
-use Rattle.entry.specs.Kinds as Kind
+use Rattle.entry.specs.Kinds as kind
 use Rattle.entry.specs.Entries.{entry}
 use Rattle.entry.specs.declared.Entry.{Entry}
 use Rattle.literal.specs.declared.End.{End}
@@ -111,5 +111,5 @@ Standing at level due P = (braces : List ℕ) → P (state at level braces due)
 -- a literal that is listed, with its length: a piece of text that `${` ends opens an interpolation
 unfoldable pub listed_as : Opener → End → Position → ℕ → ℕ → Turned
 listed_as o e p m used =
-    pick e.interpolated (record { piece = true; token = Tokens.InterpolatedString; to = e.cursor; used = used + m; next = Listed (entry Kind.interpolated p used m) })
+    pick e.interpolated (record { piece = true; token = Tokens.InterpolatedString; to = e.cursor; used = used + m; next = Listed (entry kind.interpolated p used m) })
     (record { piece = false; token = Tokens.StringConstant; to = e.cursor; used = used + m; next = Listed (entry o.kind p used m) })

@@ -21,9 +21,11 @@ ghost use Rattle.turn.specs.Turns.{turn_of, Leads, Turns, Deep, At, Standing, li
 
 use chars::cursor::Cursor;
 use classes::marks;
-use entry::{Entry, kinds};
+use entry::Entry;
+use entry::kinds::Kind;
 use fault::Fault;
 use find::{Found, Opener};
+use lex_error::LexError;
 use literal::{End, Scanned};
 use position::Position;
 use reading::{Bounds, Ending};
@@ -52,7 +54,8 @@ pub enum Next {
 // What a turn has passed and up to where, how many literal bytes are used then, and what the turn came to.
 #[derive(Clone, Copy)]
 pub struct Turned {
-    // Whether it is a piece of text that `${` ended; else the Rust's token.
+    // Whether it is a piece of text that `${` ended; else the Rust's token. As one `Crossed` here, or as an enum in place of `next`,
+    // a run over white space or symbols took a tenth to a quarter longer.
     pub piece: bool,
     pub token: u8,
     pub to: Cursor,
@@ -82,9 +85,10 @@ fn measure(
     ensures body_kept { (opener.terminator ≡ hash → ⊥) → BodyKept result (literal_trace document01 text.now opener from) aside.old aside.new }
 {
     if opener.terminator == marks::HASH {
-        return raw::scan::measure(text, from, 0, limit, room);
+        raw::scan::measure(text, from, 0, limit, room)
+    } else {
+        string::scan::scan(text, from, opener.terminator, limit, room, aside)
     }
-    string::scan::scan(text, from, opener.terminator, limit, room, aside)
 }
 
 // Whether the body of a `'` literal, which stands aside, is one character; none has more than four bytes.
@@ -92,13 +96,7 @@ fn is_one_character(aside: &[u8], text: &[u8], read: Read) -> bool
     requires { (read.opener.terminator ≡ apostrophe) × (read.len ≡ length (bytes (literal_trace document01 text.now read.opener read.from))) × Holds (bytes (literal_trace document01 text.now read.opener read.from)) aside.now }
     ensures { result ≡ eqb (length (chars (bytes (literal_trace document01 text.now read.opener read.from)))) 1 }
 {
-    if 4 < read.len {
-        return false;
-    }
-    let Some((_, width)) = utf8::look_at(aside, 0) else {
-        return false;
-    };
-    width == read.len
+    read.len <= 4 && utf8::look_at(aside, 0).is_some_and(|(_, width)| width == read.len)
 }
 
 // What is to be said of a literal that its scan accepts, with so many interpolations open.
@@ -108,21 +106,17 @@ fn verdict(aside: &[u8], text: &[u8], read: Read, level: usize) -> Verdict
 {
     let start = read.from.place;
     if read.end.on_record.times != 0 {
-        return Err(Fault::at(Fault::STILL_OPEN, read.end.cursor.place));
+        Err(Fault::at(LexError::StillOpen, read.end.cursor.place))
+    } else if read.end.interpolated && 16 <= level {
+        Err(Fault::at(LexError::TooDeep, start))
+    } else if !read.end.interpolated
+        && read.opener.terminator == marks::APOSTROPHE
+        && !is_one_character(aside, text, read)
+    {
+        Err(Fault::at(LexError::NotOneCharacter, start))
+    } else {
+        Ok(())
     }
-    if read.end.interpolated {
-        if 16 <= level {
-            return Err(Fault::at(Fault::TOO_DEEP, start));
-        }
-        return Ok(());
-    }
-    if read.opener.terminator == marks::APOSTROPHE {
-        if is_one_character(aside, text, read) {
-            return Ok(());
-        }
-        return Err(Fault::at(Fault::NOT_ONE_CHARACTER, start));
-    }
-    Ok(())
 }
 
 // Writes the body of a literal that is listed, behind the literal bytes that are used: a short string from aside, a long one by the
@@ -136,20 +130,18 @@ fn write(aside: &[u8], text: &[u8], read: Read, room: Room, literals: &mut [u8])
     let used = room.used;
     if read.opener.terminator == marks::HASH {
         raw::write::write(text, from, 0, len, &mut literals[used..]);
-        return;
+    } else if len <= ASIDE {
+        lent::copy(&aside[..len], literals, used);
+    } else {
+        let _ = string::scan::scan(
+            text,
+            from,
+            read.opener.terminator,
+            room.bounds.limit,
+            literals.len() - used,
+            &mut literals[used..],
+        );
     }
-    if len <= ASIDE {
-        lent::copy(&aside[0..len], literals, used);
-        return;
-    }
-    let _ = string::scan::scan(
-        text,
-        from,
-        read.opener.terminator,
-        room.bounds.limit,
-        literals.len() - used,
-        &mut literals[used..],
-    );
 }
 
 // The run is over.
@@ -166,44 +158,33 @@ fn over(to: Cursor, used: usize, ending: Ending) -> Turned
 }
 
 // It stops with a fault that is about no part of the script.
-fn stop(to: Cursor, used: usize, number: u8, place: Position) -> Turned
-    ensures { result ≡ record { piece = false; token = EOF; to = to; used = used; next = Over (Err (fault number place)) } }
+fn stop(to: Cursor, used: usize, error: LexError, place: Position) -> Turned
+    ensures { result ≡ record { piece = false; token = EOF; to = to; used = used; next = Over (Err (fault error place)) } }
 {
-    over(to, used, Err(Fault::at(number, place)))
+    over(to, used, Err(Fault::at(error, place)))
 }
 
 // A literal that is listed: a piece of text that `${` ends opens an interpolation.
+#[tactic(auto, unfolding(crate::specs::Turns::listed_as))]
 fn list(read: Read, at: usize, used: usize) -> Turned
     requires { used ≡ at + read.len }
     ensures { result ≡ listed_as read.opener read.end read.from.place read.len at }
 {
-    let to = read.end.cursor;
-    let place = read.from.place;
-    let len = read.len;
-    if read.end.interpolated {
-        return Turned {
-            piece: true,
-            token: tokens::INTERPOLATED_STRING,
-            to,
-            used,
-            next: Next::Listed(Entry {
-                kind: kinds::INTERPOLATED,
-                place,
-                at,
-                len,
-            }),
-        };
-    }
+    let (piece, token, kind) = if read.end.interpolated {
+        (true, tokens::INTERPOLATED_STRING, Kind::Interpolated)
+    } else {
+        (false, tokens::STRING_CONSTANT, read.opener.kind)
+    };
     Turned {
-        piece: false,
-        token: tokens::STRING_CONSTANT,
-        to,
+        piece,
+        token,
+        to: read.end.cursor,
         used,
         next: Next::Listed(Entry {
-            kind: read.opener.kind,
-            place,
+            kind,
+            place: read.from.place,
             at,
-            len,
+            len: read.len,
         }),
     }
 }
@@ -231,7 +212,7 @@ fn accepted(
                 write(aside, text, read, room, literals);
                 return list(read, used, after);
             }
-            stop(from, used, Fault::NO_TOKEN_ROOM, from.place)
+            stop(from, used, LexError::NoTokenRoom, from.place)
         }
     }
 }
@@ -248,7 +229,7 @@ fn literal(
     requires { (from.at ≤ length text.now) × (room.bounds.literals ≡ length literals.old) × (room.used ≤ length literals.old) }
     ensures { Deep level (λ s. Turns room.bounds room.listed room.used s (literal_step document01 text.now opener from s) result literals.old literals.new) }
 {
-    let mut aside: [u8; 128] = [0; 128];
+    let mut aside = [0; ASIDE];
     let free = literals.len() - room.used;
     match measure(text, opener, from, room.bounds.limit, free, &mut aside) {
         Ok((end, len)) => {
@@ -265,7 +246,7 @@ fn literal(
 }
 
 // A token that is a part of the script, from a cursor up to another.
-fn part(kind: u8, token: u8, to: Cursor, from: Cursor, room: Room) -> Turned
+fn part(kind: Kind, token: u8, to: Cursor, from: Cursor, room: Room) -> Turned
     requires { from.at ≤ to.at }
     ensures { At from (λ s. Leads s result (turn_of room.bounds room.listed room.used s (part_step kind token to s))) }
 {
@@ -287,7 +268,7 @@ fn part(kind: u8, token: u8, to: Cursor, from: Cursor, room: Room) -> Turned
             }),
         };
     }
-    stop(from, used, Fault::NO_TOKEN_ROOM, place)
+    stop(from, used, LexError::NoTokenRoom, place)
 }
 
 // The script's end: 11 at the cursor where an interpolation is open.
@@ -296,9 +277,10 @@ fn end(here: Cursor, level: usize, room: Room) -> Turned
 {
     let place = here.place;
     if level == 0 {
-        return over(here, room.used, Ok(place));
+        over(here, room.used, Ok(place))
+    } else {
+        stop(here, room.used, LexError::StillOpen, place)
     }
-    stop(here, room.used, Fault::STILL_OPEN, place)
 }
 
 // One turn, for a run, which has checked its script and its book. A text that is due goes on from its `}`; else what begins behind
@@ -322,8 +304,7 @@ pub fn turn(
         return literal(text, Opener::TEXT, from, level, room, literals);
     }
     let here = find::skip(text, cursor);
-    let found = find::find(book, text, here);
-    match found {
+    match find::find(book, text, here) {
         Found::White(to) => Turned {
             piece: false,
             token: tokens::COMMENT,

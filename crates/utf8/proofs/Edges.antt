@@ -24,7 +24,7 @@ use Rattle.utf8.proofs.Decodes.{look_reads}
 use Rattle.utf8.proofs.Laws.{by_chars, look_width, at_width, chars_start, chars_end, well_char, well_end, edge_zero, edge_end, edge_inside, edge_char}
 
 -- ---- boundaries
-boundary_byte : (s : List ℕ) (n : ℕ) → n < length s → boundary s n ≡ isnt (within (0x80 ‥ 0xBF) (get_or s n 0))
+pub boundary_byte : (s : List ℕ) (n : ℕ) → n < length s → boundary s n ≡ isnt (within (0x80 ‥ 0xBF) (get_or s n 0))
 unfolding boundary
 boundary_byte s n h = rw (lt-ltb n (length s) h)
 

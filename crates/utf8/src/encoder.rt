@@ -5,19 +5,16 @@ ghost use Rattle.basis.specs.Store.{stored, after};
 ghost use Rattle.utf8.specs.Encode.{encode, encoded};
 
 // How many bytes a scalar value's encoding has.
+#[tactic(auto, using(crate::proofs::Encodes::enc1, crate::proofs::Encodes::enc2, crate::proofs::Encodes::enc3, crate::proofs::Encodes::enc4))]
 fn size(c: u32) -> usize
     ensures { result ≡ length (encode c) }
 {
-    if c < 0x80 {
-        return 1;
+    match c {
+        0..=0x7F => 1,
+        0x80..=0x7FF => 2,
+        0x800..=0xFFFF => 3,
+        _ => 4,
     }
-    if c < 0x800 {
-        return 2;
-    }
-    if c < 0x10000 {
-        return 3;
-    }
-    4
 }
 
 // The encoding written where there is room for it; the index after it.
@@ -53,14 +50,9 @@ pub fn put(c: u32, out: &mut [u8], at: usize) -> usize
     ensures value { result ≡ after out.old at (encoded c) }
     ensures out_after { out.new ≡ stored out.old at (encoded c) }
 {
-    if crate::is_scalar(c) {
-        if out.len() < at {
-            return at;
-        }
-        if out.len() - at < size(c) {
-            return at;
-        }
-        return write(c, &mut *out, at);
+    if crate::is_scalar(c) && at <= out.len() && size(c) <= out.len() - at {
+        write(c, out, at)
+    } else {
+        at
     }
-    at
 }

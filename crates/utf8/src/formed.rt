@@ -42,109 +42,69 @@ fn behind_ascii(text: &[u8], at: usize) -> usize
 }
 
 // Whether a byte of a range stands at an offset.
+#[tactic(auto, unfolding(crate::specs::Widths::fits_row))]
 fn is_in(text: &[u8], at: usize, low: u8, high: u8) -> bool
     ensures { result ≡ fits_row (low ‥ high ∷ []) (drop at text.now) }
 {
-    if at < text.len() {
-        let b = text[at];
-        if low <= b {
-            return b <= high;
-        }
-        return false;
-    }
-    false
+    at < text.len() && low <= text[at] && text[at] <= high
 }
 
 // Table 3-7, the rows of two bytes, of three, and of four, by the range of the second byte: the width, if the bytes after an
 // offset are there.
+#[tactic(auto, using(crate::proofs::Widths::fits_on))]
 fn two(text: &[u8], at: usize) -> usize
     requires { at < length text.now }
     ensures { result ≡ row_width (0x80 ‥ 0xBF ∷ []) (drop (at + 1) text.now) }
 {
     if is_in(text, at + 1, 0x80, 0xBF) {
-        return 2;
+        2
+    } else {
+        0
     }
-    0
 }
 
 fn three(text: &[u8], at: usize, low: u8, high: u8) -> usize
     requires { at < length text.now }
     ensures { result ≡ row_width (low ‥ high ∷ 0x80 ‥ 0xBF ∷ []) (drop (at + 1) text.now) }
 {
-    if is_in(text, at + 1, low, high) {
-        if is_in(text, at + 2, 0x80, 0xBF) {
-            return 3;
-        }
-        return 0;
+    if is_in(text, at + 1, low, high) && is_in(text, at + 2, 0x80, 0xBF) {
+        3
+    } else {
+        0
     }
-    0
 }
 
 fn four(text: &[u8], at: usize, low: u8, high: u8) -> usize
     requires { at < length text.now }
     ensures { result ≡ row_width (low ‥ high ∷ 0x80 ‥ 0xBF ∷ 0x80 ‥ 0xBF ∷ []) (drop (at + 1) text.now) }
 {
-    if is_in(text, at + 1, low, high) {
-        if is_in(text, at + 2, 0x80, 0xBF) {
-            if is_in(text, at + 3, 0x80, 0xBF) {
-                return 4;
-            }
-            return 0;
-        }
-        return 0;
+    if is_in(text, at + 1, low, high)
+        && is_in(text, at + 2, 0x80, 0xBF)
+        && is_in(text, at + 3, 0x80, 0xBF)
+    {
+        4
+    } else {
+        0
     }
-    0
 }
 
-// The rows of three bytes as the table prints them, by the first byte, E0..EF.
-fn of_three(text: &[u8], at: usize, a: u8) -> usize
-    requires { (at < length text.now) × (0xE0 ≤ a) × (a < 0xF0) }
-    ensures { result ≡ width_of (look (a ∷ drop (at + 1) text.now)) }
-{
-    if a < 0xE1 {
-        return three(text, at, 0xA0, 0xBF);
-    }
-    if a < 0xED {
-        return three(text, at, 0x80, 0xBF);
-    }
-    if a < 0xEE {
-        return three(text, at, 0x80, 0x9F);
-    }
-    three(text, at, 0x80, 0xBF)
-}
-
-// The rows of four bytes, by the first byte, F0 and above.
-fn of_four(text: &[u8], at: usize, a: u8) -> usize
-    requires { (at < length text.now) × (0xF0 ≤ a) }
-    ensures { result ≡ width_of (look (a ∷ drop (at + 1) text.now)) }
-{
-    if a < 0xF1 {
-        return four(text, at, 0x90, 0xBF);
-    }
-    if a < 0xF4 {
-        return four(text, at, 0x80, 0xBF);
-    }
-    if a < 0xF5 {
-        return four(text, at, 0x80, 0x8F);
-    }
-    0
-}
-
-// The width of the character at an offset whose byte, a, is above 7F; 0 where none begins. Nothing is decoded.
+// The width of the character at an offset whose byte, a, is above 7F, by the rows of Table 3-7; 0 where none begins. Nothing is decoded.
+#[tactic(auto, using(crate::proofs::Widths::row_none, crate::proofs::Widths::row_two, crate::proofs::Widths::row_three_low, crate::proofs::Widths::row_three, crate::proofs::Widths::row_three_high, crate::proofs::Widths::row_three_last, crate::proofs::Widths::row_four_low, crate::proofs::Widths::row_four, crate::proofs::Widths::row_four_high, crate::proofs::Widths::row_beyond))]
 fn width(text: &[u8], at: usize, a: u8) -> usize
     requires { (at < length text.now) × (0x80 ≤ a) }
     ensures { result ≡ width_of (look (a ∷ drop (at + 1) text.now)) }
 {
-    if a < 0xC2 {
-        return 0;
+    match a {
+        0xC2..=0xDF => two(text, at),
+        0xE0 => three(text, at, 0xA0, 0xBF),
+        0xE1..=0xEC => three(text, at, 0x80, 0xBF),
+        0xED => three(text, at, 0x80, 0x9F),
+        0xEE..=0xEF => three(text, at, 0x80, 0xBF),
+        0xF0 => four(text, at, 0x90, 0xBF),
+        0xF1..=0xF3 => four(text, at, 0x80, 0xBF),
+        0xF4 => four(text, at, 0x80, 0x8F),
+        _ => 0,
     }
-    if a < 0xE0 {
-        return two(text, at);
-    }
-    if a < 0xF0 {
-        return of_three(text, at, a);
-    }
-    of_four(text, at, a)
 }
 
 // Whether a text is UTF-8.
@@ -168,15 +128,12 @@ pub fn check(text: &[u8]) -> bool
 }
 
 // Whether a character of a well-formed text begins at an offset, or the text ends there: one byte tells.
+#[tactic(auto, unfolding(crate::specs::Table::boundary))]
 pub fn is_boundary(text: &[u8], at: usize) -> bool
     ensures { result ≡ boundary text.now at }
 {
-    if at < text.len() {
-        let b = text[at];
-        if b < 0x80 {
-            return true;
-        }
-        return 0xBF < b;
+    match text.get(at) {
+        Some(b) => *b < 0x80 || 0xBF < *b,
+        None => at == text.len(),
     }
-    at == text.len()
 }

@@ -17,15 +17,10 @@ pub type Look = Option<(u32, usize)>;
 fn bits_at(text: &[u8], at: usize) -> u32
     ensures { result ≡ bits_of (drop at text.now) }
 {
-    if at < text.len() {
-        let b = text[at] as u32;
-        if 0x80 <= b {
-            if b <= 0xBF {
-                return b - 0x80;
-            }
-        }
+    match text.get(at) {
+        Some(b @ 0x80..=0xBF) => *b as u32 - 0x80,
+        _ => 64,
     }
-    64
 }
 
 // The first bits, and then those of the n bytes after an offset; 0 if one of these is no further byte.
@@ -47,17 +42,17 @@ fn joined(text: &[u8], at: usize, n: usize, first: u32) -> u32
 }
 
 // The character of n further bytes: a scalar value, and not one that fewer bytes would do for.
+#[tactic(auto, unfolding(crate::specs::Bits::sized_of))]
 fn sized(text: &[u8], at: usize, n: usize, first: u32, least: u32) -> Look
     requires { (at < length text.now) × (n ≤ 3) × (first < 32) }
     ensures { result ≡ sized_of n first least (drop (at + 1) text.now) }
 {
     let c = joined(text, at, n, first);
-    if least <= c {
-        if is_scalar(c) {
-            return Some((c, n + 1));
-        }
+    if least <= c && is_scalar(c) {
+        Some((c, n + 1))
+    } else {
+        None
     }
-    None
 }
 
 // The character at an offset whose byte, a, is above 7F: Table 3-6 read backwards. It has two callers, `look_at` and `width`, so that the compiler keeps it apart and those two small.
@@ -65,19 +60,12 @@ fn longer(text: &[u8], at: usize, a: u32) -> Look
     requires { (at < length text.now) × (0x80 ≤ a) }
     ensures { result ≡ look (a ∷ drop (at + 1) text.now) }
 {
-    if a < 0xC0 {
-        return None;
+    match a {
+        0xC0..=0xDF => sized(text, at, 1, a - 0xC0, 0x80),
+        0xE0..=0xEF => sized(text, at, 2, a - 0xE0, 0x800),
+        0xF0..=0xF7 => sized(text, at, 3, a - 0xF0, 0x10000),
+        _ => None,
     }
-    if a < 0xE0 {
-        return sized(text, at, 1, a - 0xC0, 0x80);
-    }
-    if a < 0xF0 {
-        return sized(text, at, 2, a - 0xE0, 0x800);
-    }
-    if a < 0xF8 {
-        return sized(text, at, 3, a - 0xF0, 0x10000);
-    }
-    None
 }
 
 // Whether a character of three bytes whose first, a, is E1..EC stands at an offset: Table 3-7's row with the most letters.
@@ -85,19 +73,10 @@ fn is_three(text: &[u8], at: usize, a: u32) -> bool
     requires { at < length text.now }
     ensures { result ≡ true → width_of (look (a ∷ drop (at + 1) text.now)) ≡ 3 }
 {
-    if a < 0xE1 {
+    if a < 0xE1 || 0xEC < a {
         return false;
     }
-    if 0xEC < a {
-        return false;
-    }
-    if 63 < bits_at(text, at + 1) {
-        return false;
-    }
-    if 63 < bits_at(text, at + 2) {
-        return false;
-    }
-    true
+    bits_at(text, at + 1) < 64 && bits_at(text, at + 2) < 64
 }
 
 // Whether a character of four bytes whose first, a, is F0 stands at an offset: the row of the emoji.
@@ -105,23 +84,11 @@ fn is_four(text: &[u8], at: usize, a: u32) -> bool
     requires { at < length text.now }
     ensures { result ≡ true → width_of (look (a ∷ drop (at + 1) text.now)) ≡ 4 }
 {
-    if a != 0xF0 {
-        return false;
-    }
     let b = bits_at(text, at + 1);
-    if b < 16 {
+    if a != 0xF0 || b < 16 || 63 < b {
         return false;
     }
-    if 63 < b {
-        return false;
-    }
-    if 63 < bits_at(text, at + 2) {
-        return false;
-    }
-    if 63 < bits_at(text, at + 3) {
-        return false;
-    }
-    true
+    bits_at(text, at + 2) < 64 && bits_at(text, at + 3) < 64
 }
 
 // The width of the character at an offset whose byte, a, is above 7F; 0 where none begins. The common rows are seen at once.
@@ -130,10 +97,7 @@ pub fn width(text: &[u8], at: usize, a: u32) -> usize
     ensures { result ≡ width_of (look (a ∷ drop (at + 1) text.now)) }
 {
     if a < 0xE0 {
-        if a < 0xC2 {
-            return 0;
-        }
-        if 63 < bits_at(text, at + 1) {
+        if a < 0xC2 || 63 < bits_at(text, at + 1) {
             return 0;
         }
         return 2;
@@ -144,13 +108,14 @@ pub fn width(text: &[u8], at: usize, a: u32) -> usize
     if is_four(text, at, a) {
         return 4;
     }
-    let Some((_, w)) = longer(text, at, a) else {
-        return 0;
-    };
-    w
+    match longer(text, at, a) {
+        Some((_, w)) => w,
+        None => 0,
+    }
 }
 
 // The character at an offset; None also past the end.
+#[tactic(auto, using(crate::proofs::Laws::look_past, crate::proofs::Bits::look_ascii, crate::proofs::Bits::look_here))]
 pub fn look_at(text: &[u8], at: usize) -> Look
     ensures { result ≡ look_at text.now at }
 {
@@ -165,14 +130,9 @@ pub fn look_at(text: &[u8], at: usize) -> Look
 }
 
 // Whether a number is a scalar value, as `char::from_u32` asks.
+#[tactic(auto, unfolding(crate::specs::Encode::is_scalar))]
 pub fn is_scalar(c: u32) -> bool
     ensures { result ≡ is_scalar c }
 {
-    if c < 0xD800 {
-        return true;
-    }
-    if 0xE000 <= c {
-        return c < 0x110000;
-    }
-    false
+    matches!(c, 0..=0xD7FF | 0xE000..=0x10FFFF)
 }

@@ -3,6 +3,8 @@ use Rattle.std.specs.Prelude.{Err, Ok}
 use Prim.Native.Nat.{ℕ}
 use native.Mathlib.Omega.{arith}
 use mathlib.Core.Path.{◌≡◌}
+use Rattle.lex_error.specs.declared.LexError.{LexError}
+use Rattle.lex_error.specs.Numbers.{number_of}
 use Rattle.c_answer.specs.Packed.{packed, refusal_as_number}
 use Rattle.c_answer.proofs.Examples.{worked}
 use Rattle.position.specs.declared.Position.{Position}
@@ -13,6 +15,6 @@ pub at_number : (p : Position) → packed p ≡ placed_as_number (Ok p)
 unfolding refusal_as_number told placed_as_number
 at_number p = omega arith
 
-pub refused_number : (n : ℕ) → refusal_as_number n ≡ placed_as_number (Err n)
+pub refused_number : (e : LexError) → refusal_as_number (number_of e) ≡ placed_as_number (Err e)
 unfolding told placed_as_number
-refused_number n = rw worked.no_place (omega arith)
+refused_number e = rw worked.no_place (omega arith)

@@ -1,4 +1,5 @@
 -- The table of returns in front of the definition, row by row. Assumes nothing.
+use Rattle.lex_error.specs.declared.LexError.TheVariants.{BadArgument, NotUtf8}
 use Rattle.std.specs.Prelude.{Err, Ok}
 use Prim.Native.Nat.{ℕ}
 use mathlib.Core.List.{List, [], ◌∷◌}
@@ -40,11 +41,11 @@ returned = (refl, refl, refl, refl, refl, refl, refl, refl, refl)
 
 -- the arguments that are refused: a text that is not UTF-8, an offset past the end and one inside a character, line 0, and the levels next to the range
 pub refused :
-    (scan_block_comment_of (0x80 ∷ []) 0 (given 1 1) 1 ≡ Err (fault 1 (given 1 1)))
-    × (scan_block_comment_of [] 1 (given 1 1) 1 ≡ Err (fault 3 (given 1 1)))
-    × (scan_block_comment_of (0xC3 ∷ 0xA9 ∷ []) 1 (given 1 1) 1 ≡ Err (fault 3 (given 1 1)))
-    × (scan_block_comment_of [] 0 (given 0 1) 1 ≡ Err (fault 3 (given 0 1)))
-    × (scans 0 [] ≡ Err (fault 3 (given 1 1)))
-    × (scans 65536 [] ≡ Err (fault 3 (given 1 1)))
+    (scan_block_comment_of (0x80 ∷ []) 0 (given 1 1) 1 ≡ Err (fault NotUtf8 (given 1 1)))
+    × (scan_block_comment_of [] 1 (given 1 1) 1 ≡ Err (fault BadArgument (given 1 1)))
+    × (scan_block_comment_of (0xC3 ∷ 0xA9 ∷ []) 1 (given 1 1) 1 ≡ Err (fault BadArgument (given 1 1)))
+    × (scan_block_comment_of [] 0 (given 0 1) 1 ≡ Err (fault BadArgument (given 0 1)))
+    × (scans 0 [] ≡ Err (fault BadArgument (given 1 1)))
+    × (scans 65536 [] ≡ Err (fault BadArgument (given 1 1)))
 unfolding scan_computes
 refused = (refl, refl, refl, refl, refl, refl)

@@ -1,7 +1,10 @@
 -- The turn of a block comment, for each way through the code, and what it leaves of the scan. Assumes nothing.
-use Rattle.chars.specs.Takes.{char_taken}
+use Rattle.std.specs.declared.ops.ControlFlow.TheVariants.{Break, Continue}
+use lib.Dec.{eqb}
+use Rattle.chars.specs.Takes.{Taken, char_taken}
 use Rattle.utf8.specs.Looks.{char_found}
-use Rattle.std.specs.Prelude.{None}
+use Rattle.std.specs.Prelude.{None, Some, MatchOption}
+use Rattle.std.specs.Bool.{then_some}
 use Prim.Native.Nat.{ℕ, ◌+◌, ◌-◌, ◌≤◌, ◌<◌}
 use native.Mathlib.Omega.{arith}
 use native.Mathlib.Nat.{add-zero}
@@ -9,7 +12,7 @@ use mathlib.Core.Bool.{Bool, true, false}
 use mathlib.Core.List.{List}
 use mathlib.Core.Path.{◌≡◌, refl, sym, ap, ◌∙◌}
 use lib.ListN.{length}
-use borrow.Author.Tests.{eq-eqb, ne_eqb, eqb-true}
+use borrow.Author.Tests.{eq-eqb, ne_eqb, eqb-true, eqb-false}
 use Rattle.basis.specs.Pick.{pick}
 use Rattle.basis.proofs.Cases.{not_both}
 use Rattle.position.specs.declared.Position.{Position}
@@ -27,9 +30,8 @@ use Rattle.chars.proofs.Scans.{move_on, move_over, at_end_lem, one_on, two_on, i
 use Rattle.chars.proofs.Stretches.{is_other, stretched, stretch_low, stretch_high}
 use Rattle.chars.proofs.Stretches as stretches
 use Rattle.comment.specs.Block.{comment_at, Inside, inside, comment_turn, comment_rule, comment_of}
-use Rattle.comment.specs.Step.{eat_if_of, move_of, as_led, LevelFits, TurnFits}
+use Rattle.comment.specs.Step.{Led, led_on, led_over, eat_if_of, move_of, as_led, LevelFits, TurnFits}
 use Rattle.comment.specs.declared.scan.Comment.{Comment}
-use Rattle.comment.specs.declared.scan.Led.TheVariants.{On, Over}
 
 -- ---- characters taken
 -- a cursor behind a character is further on, and within the text
@@ -40,23 +42,32 @@ further_on t s e =
     rw k.stands (omega arith, omega arith)
 
 -- one level up at most, further on, is fine
-pub still_fine : (n level : ℕ) (from : Cursor) {next : Cursor} {m : ℕ} → LevelFits n level from → (from.at < next.at) × (next.at ≤ n) → 1 ≤ m → m ≤ level + 1 → TurnFits n from (On m next)
+pub still_fine : (n level : ℕ) (from : Cursor) {next : Cursor} {m : ℕ} → LevelFits n level from → (from.at < next.at) × (next.at ≤ n) → 1 ≤ m → m ≤ level + 1 → TurnFits n from (led_on m next)
 still_fine n level from f h l u = (record { low = l; high = omega arith; within = h.1 }, h.0)
 
 -- a character taken if it is the one asked for
 module _ (t : List ℕ) (s : Cursor) (c : ℕ) where
   module _ {d : ℕ} {next : Cursor} (e : eat_next_of t s ≡ char_taken d next) where
-    pub eaten : d ≡ c → eat_if_of t s c ≡ char_taken d next
+    eaten : d ≡ c → eat_if_of t s c ≡ char_taken d next
     unfolding eat_if_of
     eaten h = rw (followed t s.at c (ate_took t s e).found h, e)
 
-    pub another : (d ≡ c → ⊥) → eat_if_of t s c ≡ None
+    another : (d ≡ c → ⊥) → eat_if_of t s c ≡ None
     unfolding eat_if_of
     another h = rw (other_follows t s.at c (ate_took t s e).found h)
 
-  pub none_there : eat_next_of t s ≡ None → eat_if_of t s c ≡ None
+  none_there : eat_next_of t s ≡ None → eat_if_of t s c ≡ None
   unfolding eat_if_of
   none_there e = rw (nothing_follows t s.at c (ate_ended t s e))
+
+  -- the character that is next, if it is the one asked for
+  pub eaten_if : {o r : Taken} {X : ℕ × Cursor → Bool → Type 0} → o ≡ eat_next_of t s → MatchOption o (r ≡ None) (λ x. (b : Bool) × X x b × (r ≡ then_some b x)) → ((x : ℕ × Cursor) (b : Bool) → X x b → b ≡ eqb x.0 c) → r ≡ eat_if_of t s c
+  eaten_if {o = Some (d, next)} {r = r} e m f = by m.0 (f (d, next) m.0 m.1) m.2
+    where
+      by : (b : Bool) → b ≡ eqb d c → r ≡ then_some b (d, next) → r ≡ eat_if_of t s c
+      by true q h = h ∙ sym (eaten (sym e) (eqb-true d c (sym q)))
+      by false q h = h ∙ sym (another (sym e) (eqb-false d c (sym q)))
+  eaten_if {o = None} e m f = m ∙ sym (none_there (sym e))
 
   is_it : {d w : ℕ} → look_at t s.at ≡ char_found d w → follows c (chars_at t s.at) ≡ true → d ≡ c
   is_it {d} e h = eqb-true d c (rw (chars_char t s.at e) at h)
@@ -86,7 +97,7 @@ module _ (t : List ℕ) (level : ℕ) (from : Cursor) where
   abbrev here : Inside
   here = inside level from.place
 
-  pub ends : eat_next_of t from ≡ None → Over level from ≡ as_led (move_of t level from)
+  pub ends : eat_next_of t from ≡ None → led_over level from ≡ as_led (move_of t level from)
   unfolding move_of
   ends e = sym (ap as_led (at_end_lem comment_rule t from.at here (ate_ended t from e)))
 
@@ -105,65 +116,70 @@ module _ (t : List ℕ) (level : ℕ) (from : Cursor) where
         let k = if_took t next d f in
         rw (← k.1, ← ap (λ (x : Cursor). x.at) took.stands, ← ap (λ (x : Cursor). x.place) took.stands) (ate_took t next k.0)
 
-    pub slash : c ≡ 0x2F → eat_if_of t next 0x2A ≡ None → On level next ≡ as_led (move_of t level from)
+    pub slash : c ≡ 0x2F → eat_if_of t next 0x2A ≡ None → led_on level next ≡ as_led (move_of t level from)
     unfolding move_of comment_turn
     slash h f = rw took.stands (sym (ap as_led (one_on comment_rule t from.at here took.found (rw (eq-eqb c 0x2F h, next_not 0x2A f, ne_eqb c 0x2A (λ q. omega arith), ne_eqb c 0x0A (λ q. omega arith))))))
 
-    pub opens : c ≡ 0x2F → {d : ℕ} {after : Cursor} → eat_if_of t next 0x2A ≡ char_taken d after → On (level + 1) after ≡ as_led (move_of t level from)
+    pub opens : c ≡ 0x2F → {d : ℕ} {after : Cursor} → eat_if_of t next 0x2A ≡ char_taken d after → led_on (level + 1) after ≡ as_led (move_of t level from)
     unfolding move_of comment_turn
     opens h f =
         let k = pair 0x2A f in
         rw k.stands (sym (ap as_led (two_on comment_rule t from.at here took.found k.found (rw (eq-eqb c 0x2F h, followed t _ 0x2A k.found refl)))))
 
-    pub star : c ≡ 0x2A → eat_if_of t next 0x2F ≡ None → On level next ≡ as_led (move_of t level from)
+    pub star : c ≡ 0x2A → eat_if_of t next 0x2F ≡ None → led_on level next ≡ as_led (move_of t level from)
     unfolding move_of comment_turn
     star h f = rw took.stands (sym (ap as_led (one_on comment_rule t from.at here took.found (rw (ne_eqb c 0x2F (λ q. omega arith), eq-eqb c 0x2A h, next_not 0x2F f, ne_eqb c 0x0A (λ q. omega arith))))))
 
     module _ (h : c ≡ 0x2A) {d : ℕ} {after : Cursor} (f : eat_if_of t next 0x2F ≡ char_taken d after) where
-      pub closes_last : level ≡ 1 → Over 0 after ≡ as_led (move_of t level from)
+      pub closes_last : level ≡ 1 → led_over 0 after ≡ as_led (move_of t level from)
       unfolding move_of comment_turn widths
       closes_last n =
           let k = pair 0x2F f in
           rw k.stands (sym (ap as_led (is_over comment_rule t from.at here took.found (rw (ne_eqb c 0x2F (λ q. omega arith), eq-eqb c 0x2A h, followed t _ 0x2F k.found refl, eq-eqb level 1 n, chars_char t _ k.found, add-zero)))))
 
-      pub closes : (level ≡ 1 → ⊥) → On (level - 1) after ≡ as_led (move_of t level from)
+      pub closes : (level ≡ 1 → ⊥) → led_on (level - 1) after ≡ as_led (move_of t level from)
       unfolding move_of comment_turn
       closes n =
           let k = pair 0x2F f in
           rw k.stands (sym (ap as_led (two_on comment_rule t from.at here took.found k.found (rw (ne_eqb c 0x2F (λ q. omega arith), eq-eqb c 0x2A h, followed t _ 0x2F k.found refl, ne_eqb level 1 n)))))
 
-    pub new_line : c ≡ 0x0A → On level (cursor next.at (lined next.place)) ≡ as_led (move_of t level from)
+    pub new_line : c ≡ 0x0A → led_on level (cursor next.at (lined next.place)) ≡ as_led (move_of t level from)
     unfolding move_of comment_turn
     new_line h = rw took.stands (sym (ap as_led (one_on comment_rule t from.at here took.found (rw (ne_eqb c 0x2F (λ q. omega arith), ne_eqb c 0x2A (λ q. omega arith), eq-eqb c 0x0A h)))))
 
-    pub plain : (c ≡ 0x2F → ⊥) → (c ≡ 0x2A → ⊥) → (c ≡ 0x0A → ⊥) → On level next ≡ as_led (move_of t level from)
+    pub plain : (c ≡ 0x2F → ⊥) → (c ≡ 0x2A → ⊥) → (c ≡ 0x0A → ⊥) → led_on level next ≡ as_led (move_of t level from)
     unfolding move_of comment_turn
     plain n m l = rw took.stands (sym (ap as_led (one_on comment_rule t from.at here took.found (rw (ne_eqb c 0x2F n, ne_eqb c 0x2A m, ne_eqb c 0x0A l)))))
 
 -- ---- the loop: a turn that goes on leaves the answer as it is, and one that is over gives it
-on_is : {n m : ℕ} {r s : Cursor} → On n s ≡ On m r → comment_at n s ≡ comment_at m r
-on_is e = cc
+on_comment : Led → Comment
+on_comment (Continue (n, c)) = comment_at n c
+on_comment (Break c) = c
 
-over_is : {n m : ℕ} {r s : Cursor} → Over n s ≡ Over m r → comment_at n s ≡ comment_at m r
+on_is : {n m : ℕ} {r s : Cursor} → led_on n s ≡ led_on m r → comment_at n s ≡ comment_at m r
+unfolding on_comment
+on_is e = ap on_comment e
+
+over_is : {a b : Comment} → ◌≡◌ {A = Led} (Break a) (Break b) → a ≡ b
 over_is e = cc
 
-apart {ℓ} : {A : Type ℓ} {n m : ℕ} {r s : Cursor} → On n s ≡ Over m r → A
+apart {ℓ} : {A : Type ℓ} {m : ℕ} {c : Comment} {r : Cursor} → led_on m r ≡ Break c → A
 apart e = absurd (let z : ◌≡◌ {A = ℕ} 0 1 = cc in omega arith)
 
 module _ (t : List ℕ) (level : ℕ) (from : Cursor) (m : ℕ) (next : Cursor) where
-  pub goes_on : On m next ≡ as_led (move_of t level from) → comment_of t from level ≡ comment_of t next m
+  pub goes_on : led_on m next ≡ as_led (move_of t level from) → comment_of t from level ≡ comment_of t next m
   unfolding move_of comment_of
   goes_on e = go (move_of t level from) refl e
     where
-      go : (x : Move Inside (Unit {0}) Comment) → move_of t level from ≡ x → On m next ≡ as_led x → comment_of t from level ≡ comment_of t next m
+      go : (x : Move Inside (Unit {0}) Comment) → move_of t level from ≡ x → led_on m next ≡ as_led x → comment_of t from level ≡ comment_of t next m
       go (on n at o) q h = move_on comment_rule t from.at (here t level from) q ∙ ap (λ (x : Comment). comment_of t x.cursor x.level) (on_is (sym h))
       go (over x) q h = apart h
 
-  pub is_done : Over m next ≡ as_led (move_of t level from) → comment_of t from level ≡ comment_at m next
+  pub is_done : led_over m next ≡ as_led (move_of t level from) → comment_of t from level ≡ comment_at m next
   unfolding move_of comment_of
   is_done e = go (move_of t level from) refl e
     where
-      go : (x : Move Inside (Unit {0}) Comment) → move_of t level from ≡ x → Over m next ≡ as_led x → comment_of t from level ≡ comment_at m next
+      go : (x : Move Inside (Unit {0}) Comment) → move_of t level from ≡ x → led_over m next ≡ as_led x → comment_of t from level ≡ comment_at m next
       go (on n at o) q h = apart (sym h)
       go (over x) q h = move_over comment_rule t from.at (here t level from) q ∙ over_is (sym h)
 

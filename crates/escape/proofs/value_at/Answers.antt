@@ -19,9 +19,6 @@ module _ (k : In-loop-i) where
 pub returns-then-text-from : goal.returns-then-text-from
 returns-then-text-from c n = absurd (n refl)
 
-pub returns-then-text-from-2 : goal.returns-then-text-from-2
-returns-then-text-from-2 c n = absurd (n refl)
-
 pub loop-i-init : goal.loop-i-init
 loop-i-init c = counted_start _ _ _
 

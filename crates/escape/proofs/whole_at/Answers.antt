@@ -10,29 +10,14 @@ use Rattle.escape.proofs.whole_at.Goals as goal
 pub returns-then-text-at : goal.returns-then-text-at
 returns-then-text-at c = none
 
-pub overflow_cast-text : goal.overflow_cast-text
-overflow_cast-text c = omega (arith, c.shared_slice_known-2-1.given c.args.at)
-
-pub returns-then-text-at-ne-BACKSLASH : goal.returns-then-text-at-ne-BACKSLASH
-returns-then-text-at-ne-BACKSLASH c = none
-
-pub returns-then-text-at-lt2 : goal.returns-then-text-at-lt2
-returns-then-text-at-lt2 c = none
-
 pub overflow_add-c : goal.overflow_add-c
 overflow_add-c c = omega (arith, c.if-text-at-lt2.false)
 
 pub bounds-text-at-2 : goal.bounds-text-at-2
 bounds-text-at-2 c = omega (arith, c.if-text-at-lt2.false, c.if-text-at.false)
 
-pub overflow_cast-c : goal.overflow_cast-c
-overflow_cast-c c = omega (arith, c.shared_slice_known-3-1.given (c.args.at + 1))
-
 pub returns-then-c-lt32 : goal.returns-then-c-lt32
 returns-then-c-lt32 c = none
-
-pub returns-then-c-ge128 : goal.returns-then-c-ge128
-returns-then-c-ge128 c = none
 
 pub whole_of-requires : goal.whole_of-requires
 whole_of-requires c = (

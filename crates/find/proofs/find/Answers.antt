@@ -37,7 +37,7 @@ pub returns-in_default : goal.returns-in_default
 returns-in_default c = sym (nothing_more_lem _ _ _ _ (sym c.look_at.ensures ∙ c.in_default.is))
 
 pub overflow_add-next : goal.overflow_add-next
-overflow_add-next c = omega (arith, wide c)
+overflow_add-next c = omega (arith, wide (goal.at.overflow_add-next c).In-Some)
 
 pub returns-then-begins_word : goal.returns-then-begins_word
 returns-then-begins_word c =
@@ -45,7 +45,7 @@ returns-then-begins_word c =
 
 pub returns-then-is_numeric_digit : goal.returns-then-is_numeric_digit
 returns-then-is_numeric_digit c =
-    rw (c.end_of.ensures.value, c.advanced-place.ensures) (sym (finds_digit _ _ _ (seen (goal.at.returns-then-is_numeric_digit c).In-Some) (word-not (goal.at.returns-then-is_numeric_digit c).Else-begins_word) (sym c.is_numeric_digit.ensures ∙ c.if-is_numeric_digit.true)))
+    rw (c.end_of-end.ensures.value, c.advanced-place.ensures) (sym (finds_digit _ _ _ (seen (goal.at.returns-then-is_numeric_digit c).In-Some) (word-not (goal.at.returns-then-is_numeric_digit c).Else-begins_word) (sym c.is_numeric_digit.ensures ∙ c.if-is_numeric_digit.true)))
 
 pub returns-then-is_white : goal.returns-then-is_white
 returns-then-is_white c =
@@ -54,7 +54,7 @@ returns-then-is_white c =
 pub mark-requires : goal.mark-requires
 mark-requires c = (wide (goal.at.mark-requires c).In-Some).1
 
-pub returns : goal.returns
-returns c =
+pub returns-else-is_white : goal.returns-else-is_white
+returns-else-is_white c =
     c.mark.ensures ∙ rw c.advanced-place.ensures
-    (sym (finds_mark _ _ _ (seen (goal.at.returns c).In-Some) (word-not (goal.at.returns c).Else-begins_word) (digit_not (goal.at.returns c).Else-is_numeric_digit) (sym c.is_white.ensures ∙ c.if-is_white.false)))
+    (sym (finds_mark _ _ _ (seen (goal.at.returns-else-is_white c).In-Some) (word-not (goal.at.returns-else-is_white c).Else-begins_word) (digit_not (goal.at.returns-else-is_white c).Else-is_numeric_digit) (sym c.is_white.ensures ∙ c.if-is_white.false)))

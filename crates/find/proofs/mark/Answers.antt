@@ -6,21 +6,21 @@ use Rattle.find.proofs.mark.Goals as goal
 
 pub block-requires : goal.block-requires
 block-requires c =
-    block_within _ _ _ (sym c.sign_at-sign.ensures ∙ c.in-Block.is)
+    block_within _ _ _ (sym c.sign_at.ensures ∙ c.in-Block.is)
 
 pub returns-in-Literal : goal.returns-in-Literal
 returns-in-Literal c =
-    sym (signed _ _ _ _ _ (sym c.sign_at-sign.ensures ∙ c.in-Literal.is))
+    sym (signed _ _ _ _ _ (sym c.sign_at.ensures ∙ c.in-Literal.is))
 
 pub returns-in-Line : goal.returns-in-Line
 unfolding line_comment
 returns-in-Line c =
-    rw (c.end_of.ensures.value, c.advanced.ensures) (sym (signed _ _ _ _ _ (sym c.sign_at-sign.ensures ∙ c.in-Line.is)))
+    rw (c.end_of.ensures.value, c.advanced.ensures) (sym (signed _ _ _ _ _ (sym c.sign_at.ensures ∙ c.in-Line.is)))
 
 pub returns-in-Block : goal.returns-in-Block
 returns-in-Block c =
-    c.block.ensures ∙ rw c.advanced-in-Block.ensures (sym (signed _ _ _ _ _ (sym c.sign_at-sign.ensures ∙ c.in-Block.is)))
+    c.block.ensures ∙ rw c.advanced-in-Block.ensures (sym (signed _ _ _ _ _ (sym c.sign_at.ensures ∙ c.in-Block.is)))
 
 pub returns-in-Symbol : goal.returns-in-Symbol
 returns-in-Symbol c =
-    c.symbol.ensures ∙ sym (signed _ _ _ _ _ (sym c.sign_at-sign.ensures ∙ c.in-Symbol.is))
+    c.symbol.ensures ∙ sym (signed _ _ _ _ _ (sym c.sign_at.ensures ∙ c.in-Symbol.is))

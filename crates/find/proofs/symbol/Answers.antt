@@ -13,10 +13,10 @@ use Rattle.find.proofs.symbol.Goals.{In-Some}
 
 -- the symbol that was found
 module _ (k : In-Some) where
-  found : longest_symbol_of k.args.text.now k.args.at ≡ symbol_as k.in-Some.token k.in-Some.n
+  found : longest_symbol_of k.args.text.now k.args.start.at ≡ symbol_as k.in-Some.token k.in-Some.n
   found = sym (from_offset _ _ _ k.longest_of.ensures) ∙ k.in-Some.is
 
-  room : (0 < k.in-Some.n) × (k.args.at + k.in-Some.n ≤ length k.args.text.now)
+  room : (0 < k.in-Some.n) × (k.args.start.at + k.in-Some.n ≤ length k.args.text.now)
   room = offset_within _ _ _ _ found
 
 pub returns-in_default : goal.returns-in_default
@@ -26,8 +26,8 @@ returns-in_default c =
 pub overflow_sub-n : goal.overflow_sub-n
 overflow_sub-n c = omega (arith, room c)
 
-pub overflow_add-result : goal.overflow_add-result
-overflow_add-result c = omega (arith, room (goal.at.overflow_add-result c).In-Some)
+pub overflow_add-end : goal.overflow_add-end
+overflow_add-end c = omega (arith, room (goal.at.overflow_add-end c).In-Some)
 
 pub returns : goal.returns
-returns c = rw c.advanced_by-last.ensures (sym (a_symbol _ _ _ (found (goal.at.returns c).In-Some)))
+returns c = rw c.advanced_by.ensures (sym (a_symbol _ _ _ (found (goal.at.returns c).In-Some)))

@@ -14,8 +14,7 @@ use Rattle.fault.specs.Faults.{Own}
 use Rattle.chars.specs.declared.stretch.Stretch.TheVariants as Stretch
 use Rattle.chars.proofs.stretch.Ends.{end_reached}
 use Rattle.identifier.specs.Identifiers.{identified_as, spanned, identified_from, identify_of}
-use Rattle.identifier.specs.Answer.{Class}
-use Rattle.identifier.specs.Answer.{Identified}
+use Rattle.identifier.specs.Answer.{Class, Identified}
 
 module _ (t book : List ℕ) (s : Cursor) where
   abbrev pub Ahead : Identified → Type 0

@@ -14,4 +14,4 @@ pub returns-in-Err : goal.returns-in-Err
 unfolding word puts ending_line
 returns-in-Err c =
     rw c.in-Err.is
-    (and_put (and_put (and_put (and_put c.put_word-n-in-Err.ensures _ c.put_number-n.ensures) _ c.put_byte-n.ensures) _ c.put_place-n-in-Err.ensures) _ c.put_byte-in-Err.ensures)
+    (and_put (and_put (and_put (and_put c.put_word-n-in-Err.ensures _ (rw c.number.ensures at c.put_number-n.ensures)) _ c.put_byte-n.ensures) _ c.put_place-n-in-Err.ensures) _ c.put_byte-in-Err.ensures)

@@ -1,4 +1,5 @@
 -- The numbers of a place are what the Rust's Options give with `unwrap_or(0)`; a new place is the one given. Assumes nothing.
+use Rattle.lex_error.specs.declared.LexError.TheVariants.{BadArgument}
 use Rattle.std.specs.Prelude.{Err, None, Ok, Some}
 use Prim.Native.Nat.{ℕ}
 use mathlib.Core.Bool.{false}
@@ -40,6 +41,6 @@ module _ (l c : ℕ) where
   unfolding new_of
   new_given h = rw (ne_eqb l 0 h)
 
-  pub new_refused : l ≡ 0 → new_of l c ≡ Err 3
+  pub new_refused : l ≡ 0 → new_of l c ≡ Err BadArgument
   unfolding new_of
   new_refused h = rw (eq-eqb l 0 h)

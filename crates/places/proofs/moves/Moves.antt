@@ -1,4 +1,5 @@
 -- What a move answers of a place on a line, and of one on line 0. Assumes nothing.
+use Rattle.lex_error.specs.declared.LexError.TheVariants.{BadArgument}
 use Rattle.std.specs.Prelude.{Err, Ok}
 use mathlib.Core.Bool.{Bool, true, false}
 use mathlib.Core.Path.{◌≡◌, refl}
@@ -28,19 +29,19 @@ module _ (p : Position) where
     unfolding rewind_of moved
     rewinds n = rw (ne_eqb (column_number p) 0 n, h)
 
-  pub begins_refused : column_number p ≡ 0 → rewind_of p ≡ Err 3
+  pub begins_refused : column_number p ≡ 0 → rewind_of p ≡ Err BadArgument
   unfolding rewind_of
   begins_refused z = rw (eq-eqb (column_number p) 0 z)
 
   module _ (h : on_line p ≡ false) where
-    pub advance_refused : advance_of p ≡ Err 3
+    pub advance_refused : advance_of p ≡ Err BadArgument
     unfolding advance_of moved
     advance_refused = rw h
 
-    pub new_line_refused : new_line_of p ≡ Err 3
+    pub new_line_refused : new_line_of p ≡ Err BadArgument
     unfolding new_line_of moved
     new_line_refused = rw h
 
-    pub rewind_refused : rewind_of p ≡ Err 3
+    pub rewind_refused : rewind_of p ≡ Err BadArgument
     unfolding rewind_of moved
-    rewind_refused = rw h (pick_same (eqb (column_number p) 0) (Err 3))
+    rewind_refused = rw h (pick_same (eqb (column_number p) 0) (Err BadArgument))

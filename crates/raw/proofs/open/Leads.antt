@@ -15,6 +15,7 @@ use Rattle.utf8.proofs.Laws.{chars_char, chars_end, by_chars}
 use Rattle.chars.specs.Scan.{Turn, on_turn, run, run_at}
 use Rattle.chars.specs.declared.cursor.Cursor.{Cursor}
 use Rattle.chars.proofs.Reaches.{Reached, there, past}
+use Rattle.fault.specs.Faults.{number}
 use Rattle.classes.specs.Marks.{quote, hash}
 use Rattle.raw.specs.Opening.{Counted, counted, cut_off, opening_turn, opening_rule, opened_of}
 use Rattle.raw.specs.Answer.{Opened}
@@ -22,7 +23,7 @@ use Rattle.raw.specs.Answer.{Opened}
 -- from an offset, it leads to a body that a hash at least closes and that begins behind whole characters, or to a refusal by a number up to 5
 abbrev pub Leads : List ℕ → ℕ → Opened → Type 0
 Leads t at (Ok (k, from)) = (1 ≤ k) × Reached t at from.at
-Leads t at (Err f) = f.fault.number ≤ 5
+Leads t at (Err f) = number f.fault ≤ 5
 
 module _ (t : List ℕ) where
   -- a character goes before it

@@ -8,6 +8,7 @@ use lib.ListN.{length}
 use Rattle.basis.proofs.Cases.{pick_cases}
 use Rattle.position.proofs.Small.{Small, advanced_small}
 use Rattle.utf8.proofs.Laws.{at_width}
+use Rattle.lex_error.specs.declared.LexError.TheVariants.{UnterminatedString}
 use Rattle.fault.proofs.Small.{Tells, fault_tells}
 use Rattle.chars.specs.Scan.{Turn}
 use Rattle.chars.specs.declared.cursor.Cursor.{Cursor}
@@ -25,7 +26,7 @@ unfolding opened_of opening_turn cut_off
 opened_small t start k h =
     pick_cases (OpenedSmall t) (eqb k 0) _ _
     (λ y. scan_keeps (opening_rule start.place) t P (OpenedSmall t)
-    (λ at s i. fault_tells (length t) 4 (omega arith) h)
+    (λ at s i. fault_tells (length t) UnterminatedString h)
     (λ at c w s e i.
     let wide = at_width t at e in
     pick_cases Turned (eqb c quote) _ _ (λ y. advanced_small i)

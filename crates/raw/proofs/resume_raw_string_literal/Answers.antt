@@ -4,7 +4,7 @@ use Rattle.raw.proofs.Refusals.{resumes_within, resume_answered, resume_left}
 use Rattle.raw.proofs.resume_raw_string_literal.Goals as goal
 
 pub read-requires : goal.read-requires
-read-requires c = resumes_within _ _ _ c.asks-number.ensures
+read-requires c = resumes_within _ _ _ c.asks.ensures
 
 pub returns : goal.returns
-returns c = record { value = resume_answered as_source _ _ _ _ c.asks-number.ensures _ _ c.read.ensures.value; out_after = resume_left as_source _ _ _ _ c.asks-number.ensures _ _ c.read.ensures.out_after }
+returns c = record { value = resume_answered as_source _ _ _ _ c.asks.ensures _ _ c.read.ensures.value; out_after = resume_left as_source _ _ _ _ c.asks.ensures _ _ c.read.ensures.out_after }

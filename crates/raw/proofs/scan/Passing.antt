@@ -43,18 +43,22 @@ Plain c = Other 0x22 0x0A 0x0A 0x0A 0x0A c
 pub one_byte : (t : List ℕ) (at : ℕ) {c : ℕ} → at < length t → get_or t at 0 ≡ c → c < 0x80 → look_at t at ≡ char_found c 1
 one_byte t at h e l = sym (look_ascii t at h 1 (rw e l) refl) ∙ ap (λ (x : ℕ). char_found x 1) e
 
--- nothing is passed; one thing behind the other
-pub passes_none : (t : List ℕ) (k limit room held : ℕ) (s : Stand) → s.n ≤ room → BodyPasses t k limit room held s s
-passes_none t k limit room held s h = record { low = omega arith; counts = omega arith; fits = h; same = λ start full. refl }
-
-pub passes_then : {t : List ℕ} {k limit room held : ℕ} {s r u : Stand} → BodyPasses t k limit room held s r → BodyPasses t k limit room held r u → BodyPasses t k limit room held s u
-passes_then p q =
-    record { low = omega (arith, p.low, q.low); counts = omega (arith, p.low, q.low, p.counts, q.counts); fits = q.fits; same = λ start full. p.same start full ∙ q.same start full }
+-- a quote is one byte long
+pub quote_found : (t : List ℕ) (at : ℕ) {c w : ℕ} → look_at t at ≡ char_found c w → c ≡ 0x22 → look_at t at ≡ char_found 0x22 1
+unfolding encode
+quote_found t at {c} {w} e q =
+    let n : w ≡ 1 = sym (size_width t at e) ∙ ap (λ (x : ℕ). length (encode x)) q in
+    e ∙ rw (q, n) refl
 
 -- what a quote is passed with ends within the text
 pub lost_within : {t : List ℕ} {hashes at : ℕ} {x : Lost} → LostAt t hashes at x → at + x.width ≤ length t + hashes + 1
 lost_within {t} {hashes} {at} (again e) = let h = (at_width t at e).1 in omega (arith, h)
 lost_within (ended n) = let h = n.fits in omega (arith, h)
+
+-- and is a byte at least
+pub lost_some : {t : List ℕ} {hashes at : ℕ} {x : Lost} → LostAt t hashes at x → 0 < x.width
+lost_some (again e) = omega arith
+lost_some (ended n) = omega arith
 
 module _ (t : List ℕ) (k limit room most : ℕ) (s : Stand) (g : s.n + most ≤ room) (o : 0 < most → passes limit (s.n + most) ≡ false) where
   abbrev from : ℕ

@@ -17,7 +17,7 @@ use Rattle.utf8.proofs.Edges.{edge_step}
 use Rattle.chars.specs.Scan.{Turn, on_turn, run, run_at}
 use Rattle.chars.specs.declared.cursor.Cursor.{Cursor}
 use Rattle.chars.proofs.Reaches as Reaches
-use Rattle.fault.specs.Faults.{string_too_long}
+use Rattle.fault.specs.Faults.{string_too_long, number}
 use Rattle.literal.specs.Trace.{Trace, ends, fails, adds, checks, Yield, yields, final, good, bad}
 use Rattle.literal.specs.declared.End as an
 use Rattle.literal.specs.declared.Refusal.{Refusal}
@@ -34,7 +34,7 @@ module _
     (start : Cursor)
     (Q : ℕ → Trace → Type 0)
     (ended : (at : ℕ) (e : an.End) → e.cursor.at ≡ at → Q at (ends e))
-    (failed : (at : ℕ) (f : Refusal) → f.fault.number ≤ 6 → Q at (fails f))
+    (failed : (at : ℕ) (f : Refusal) → number f.fault ≤ 6 → Q at (fails f))
     (added : (at : ℕ) (bs : List ℕ) (f : Refusal) (r : Trace) → f.fault ≡ string_too_long start.place → Q at r → Q at (adds bs (checks f r)))
     (before : (at c w : ℕ) (r : Trace) → look_at t at ≡ char_found c w → Q (at + w) r → Q at r) where
   module _ (k : ℕ) where
@@ -94,7 +94,7 @@ module _ (t : List ℕ) where
       let z : f.cursor.at ≡ at = ap (λ (x : an.End). x.cursor.at) (sym (same_end h)) ∙ q in
       rw z (record { forward = omega arith; within = λ l. l; edges = λ b. b })
 
-  fails_here : (at : ℕ) (f : Refusal) → f.fault.number ≤ 6 → Ending t at (fails f)
+  fails_here : (at : ℕ) (f : Refusal) → number f.fault ≤ 6 → Ending t at (fails f)
   unfolding final
   fails_here at f l e h = not_good h
 

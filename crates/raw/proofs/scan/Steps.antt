@@ -7,11 +7,11 @@ use mathlib.Core.List.{List}
 use mathlib.Core.Path.{◌≡◌, refl, ap, ◌∙◌}
 use lib.Dec.{eqb, ltb}
 use lib.ListN.{length}
-use borrow.Author.Tests.{eq-eqb, ne_eqb, lt-ltb, le-ltb, eqb-true, eqb-false, ltb-true}
+use borrow.Author.Tests.{eq-eqb, ne_eqb, lt-ltb, eqb-true, eqb-false, ltb-true}
 use Rattle.basis.specs.Pick.{both}
-use Rattle.basis.proofs.Cases.{both_no, both_left, both_right}
+use Rattle.basis.proofs.Cases.{both_left, both_right}
 use Rattle.position.specs.declared.Position.{Position}
-use Rattle.position.specs.Place.{or_else, advanced, lined}
+use Rattle.position.specs.Place.{or_else, advanced}
 use Rattle.utf8.specs.Encode.{encode}
 use Rattle.utf8.proofs.Unicode.{size_width}
 use Rattle.chars.specs.Cursors.{cursor, eat_next_of}
@@ -20,13 +20,13 @@ use Rattle.chars.specs.declared.cursor.Cursor.{Cursor}
 use Rattle.chars.proofs.Cursors.{Took, ate_took}
 use Rattle.literal.specs.Trace.{ends}
 use Rattle.literal.specs.Answers.{nothing}
-use Rattle.raw.specs.Raw.{as_source, raw_end, BodyState, body_state, placed, body_rule, Newlines}
+use Rattle.raw.specs.Raw.{raw_end, BodyState, body_state, placed, body_rule, Newlines}
 use Rattle.raw.specs.Step.{Adds, held_behind, cursor_behind}
-use Rattle.raw.proofs.scan.Turns.{placed_line, placed_other, placed_held, quote_adds, hash_closes, hash_adds, kept_adds}
+use Rattle.raw.proofs.scan.Turns.{placed_other, quote_adds, hash_closes, hash_adds, kept_adds}
 
 -- how many bytes are held back
 module _ {c : ℕ} (held : ℕ) where
-  pub held_quote : c ≡ 0x22 → held_behind c held ≡ 1
+  held_quote : c ≡ 0x22 → held_behind c held ≡ 1
   unfolding held_behind
   held_quote h = rw (eq-eqb c 0x22 h)
 
@@ -35,26 +35,9 @@ module _ {c : ℕ} (held : ℕ) where
     unfolding held_behind
     held_none o = rw (ne_eqb c 0x22 m, o)
 
-    pub held_outside : held ≡ 0 → held_behind c held ≡ 0
-    held_outside z = held_none (rw (le-ltb 0 held (omega arith)))
-
-    pub held_other : (c ≡ 0x23 → ⊥) → held_behind c held ≡ 0
-    held_other n = held_none (rw (ne_eqb c 0x23 n, both_no))
-
-    pub held_hash : (held ≡ 0 → ⊥) → c ≡ 0x23 → held_behind c held ≡ held + 1
+    held_hash : (held ≡ 0 → ⊥) → c ≡ 0x23 → held_behind c held ≡ held + 1
     unfolding held_behind
     held_hash z h = rw (ne_eqb c 0x22 m, lt-ltb 0 held (omega (arith, z)), eq-eqb c 0x23 h)
-
--- the cursor behind a character that does not close
-module _ (c held : ℕ) (next : Cursor) where
-  pub behind_line : c ≡ 0x0A → held ≡ 0 → cursor_behind as_source c held next ≡ cursor next.at (lined next.place)
-  behind_line h z = rw (placed_line as_source {held = held} {c = c} next.place h (omega arith))
-
-  pub behind_failed : (held ≡ 0 → ⊥) → cursor_behind as_source c held next ≡ next
-  behind_failed z = rw (placed_held {held = held} c next.place (omega (arith, z)))
-
-  pub behind_plain : (c ≡ 0x0A → ⊥) → cursor_behind as_source c held next ≡ next
-  behind_plain n = rw (placed_other as_source held {c = c} next.place n)
 
 -- the character that was taken from a body, and the bytes that are held back behind it
 module _ (mode : Newlines) (t : List ℕ) (k at : ℕ) (s : BodyState) {c : ℕ} {next : Cursor} (e : eat_next_of t (cursor at s.place) ≡ char_taken c next) {held : ℕ} (h : held ≡ held_behind c s.held) where

@@ -9,15 +9,14 @@ use Rattle.run.proofs.run_as.Goals as goal
 
 pub tokens-requires : goal.tokens-requires
 tokens-requires g c =
-    let who = admitted _ _ (sym c.refuses-number.ensures ∙ c.if-number-eq0.true) in
+    let who = admitted _ _ (sym c.refuses.ensures ∙ c.in-Ok.is) in
     (who.fair, who.short)
 
-pub returns-then-number-eq0 : goal.returns-then-number-eq0
-returns-then-number-eq0 g c =
+pub returns-in-Ok : goal.returns-in-Ok
+returns-in-Ok g c =
     let part = g.P.Part in
-    let read = run_read document01 _ _ _ (sym c.refuses-number.ensures ∙ c.if-number-eq0.true) in
+    let read = run_read document01 _ _ _ (sym c.refuses.ensures ∙ c.in-Ok.is) in
     c.tokens.ensures ∙ ap (λ (l : Left). holds part.laid l c.args.literals.now (part.numbers c.args.entries.now)) (sym read)
 
-pub returns-else-number-eq0 : goal.returns-else-number-eq0
-returns-else-number-eq0 g c =
-    rw (c.refused.ensures, c.refuses-number.ensures) (refused_call document01 _ _ _ (λ z. c.if-number-eq0.false (c.refuses-number.ensures ∙ z)) _ _ _)
+pub returns-in-Err : goal.returns-in-Err
+returns-in-Err g c = rw c.refused.ensures (refused_call document01 _ _ _ (sym c.refuses.ensures ∙ c.in-Err.is) _ _ _)

@@ -3,7 +3,10 @@ use Prim.Native.Nat.{ℕ, ◌≤◌, ◌<◌}
 use mathlib.Core.List.{List}
 use mathlib.Core.Path.{◌≡◌, refl, ap, ◌∙◌}
 use lib.ListN.{length, get_or}
-use borrow.Author.Tests.{eq-eqb, ne_eqb, lt-ltb, le-ltb}
+use borrow.Author.Tests.{lt-ltb, le-ltb}
+use Rattle.std.specs.Prelude.{Err}
+use Rattle.lex_error.specs.declared.LexError.{LexError}
+use Rattle.lex_error.specs.Numbers.{number_of, no_refusal}
 use Rattle.lent.specs.Written.{left_of}
 use Rattle.lent.proofs.Writes.{written}
 use Rattle.numbers.specs.Spell.{spelled}
@@ -17,14 +20,14 @@ use Rattle.run.specs.declared.Ran.{Ran}
 use Rattle.run.specs.Bytes.{entry_bytes}
 use Rattle.stew.specs.RunAnswer.{tells_of, tells, run_short, c_called, leaves, stew_run_of}
 
-module _ (script book : List ℕ) {n : ℕ} (e : n ≡ refuses_of script book) where
-  pub no_fault : n ≡ 0 → 9 ≡ run_short script book
+module _ (script book : List ℕ) where
+  pub no_fault : refuses_of script book ≡ no_refusal → 9 ≡ run_short script book
   unfolding run_short
-  no_fault z = rw (← e, eq-eqb n 0 z)
+  no_fault z = rw z
 
-  pub own_fault : (n ≡ 0 → ⊥) → n ≡ run_short script book
+  pub own_fault : {e : LexError} → refuses_of script book ≡ Err e → number_of e ≡ run_short script book
   unfolding run_short
-  own_fault z = rw (← e, ne_eqb n 0 z)
+  own_fault z = rw z
 
 -- seven numbers, the first of them the number
 seven : (e : Ending) (n m : ℕ) → length (spelled 4 (tells_of e n m)) ≡ 28

@@ -5,9 +5,12 @@ use mathlib.Core.Bool.{true, false}
 use mathlib.Core.List.{List}
 use mathlib.Core.Path.{◌≡◌, ◌∙◌}
 use lib.ListN.{length}
-use borrow.Author.Tests.{eq-eqb, ne_eqb, lt-ltb, le-ltb}
+use borrow.Author.Tests.{lt-ltb, le-ltb}
 use Rattle.basis.specs.Store.{stored}
 use Rattle.basis.proofs.Stores.{stored_whole, sets_front}
+use Rattle.std.specs.Prelude.{Err}
+use Rattle.lex_error.specs.declared.LexError.{LexError}
+use Rattle.lex_error.specs.Numbers.{number_of, no_refusal}
 use Rattle.lent.specs.Answer.{Written}
 use Rattle.lent.specs.Written.{written_number}
 use Rattle.numbers.specs.Spell.{spell}
@@ -16,14 +19,14 @@ use Rattle.raw_writer.specs.Writer.{raw_write_of, raw_left_of}
 use Rattle.door.specs.Door.{text_of}
 use Rattle.stew.specs.WriteAnswer.{written_length, write_too_short, short_write_number, write_returned, out_of, write_answer}
 
-module _ (body : List ℕ) {n : ℕ} (e : n ≡ text_of body) where
-  pub no_fault : n ≡ 0 → 9 ≡ short_write_number body
+module _ (body : List ℕ) where
+  pub no_fault : text_of body ≡ no_refusal → 9 ≡ short_write_number body
   unfolding short_write_number
-  no_fault z = rw (← e, eq-eqb n 0 z)
+  no_fault z = rw z
 
-  pub own_fault : (n ≡ 0 → ⊥) → n ≡ short_write_number body
+  pub own_fault : {e : LexError} → text_of body ≡ Err e → number_of e ≡ short_write_number body
   unfolding short_write_number
-  own_fault z = rw (← e, ne_eqb n 0 z)
+  own_fault z = rw z
 
 module _ (body out answer : List ℕ) where
   module _ (h : length answer < 4) where

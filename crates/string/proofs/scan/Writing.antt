@@ -12,8 +12,7 @@ use Rattle.basis.proofs.Stores.{stored_whole, length_stored, sets_append, sets_f
 use Rattle.utf8.specs.Encode.{encoded}
 use Rattle.white.specs.White.{is_white}
 use Rattle.chars.specs.declared.cursor.Cursor.{Cursor}
-use Rattle.literal.specs.Trace.{Trace, bytes}
-use Rattle.literal.specs.declared.Refusal.{Refusal}
+use Rattle.literal.specs.Trace.{bytes}
 use Rattle.literal.specs.Scans.{Scanned, accepted_as}
 use Rattle.literal.proofs.Limits.{accepted_from}
 use Rattle.literal.specs.Answers.{full}

@@ -3,7 +3,7 @@ use Prim.Native.Nat.{ℕ, ◌+◌, ◌≤◌, ◌<◌}
 use native.Mathlib.Omega.{arith}
 use mathlib.Core.Bool.{Bool, true, false}
 use mathlib.Core.List.{List}
-use mathlib.Core.Logic.{⊎_elim}
+use mathlib.Core.Logic.{◌⊎◌, inl, inr, ⊎_elim}
 use mathlib.Core.Path.{◌≡◌, refl, sym, ◌∙◌}
 use lib.ListN.{length, get_or}
 use borrow.Author.Tests.{eqb-true, ne_eqb}
@@ -44,9 +44,10 @@ pub passed : (t : List ℕ) (q : ℕ) (from : Stood) {k b : ℕ} → StretchOf t
 passed t q from x n g m h = rw (g, h, m) (some x n)
 
 -- ---- one byte
-pub is_plain : (q c : ℕ) → (c ≡ q → ⊥) → (c ≡ backslash → ⊥) → (c ≡ dollar → ⊥) → (c ≡ lf → ⊥) → (c ≡ cr → ⊥) → Plain q c
+pub is_plain : (q c : ℕ) → (c ≡ q → ⊥) → ((c ≡ backslash) ⊎ (c ≡ dollar) ⊎ (c ≡ lf) ⊎ (c ≡ cr) → ⊥) → Plain q c
 unfolding stretch.among
-is_plain q c a b d e f = rw (ne_eqb c q a, ne_eqb c backslash b, ne_eqb c dollar d, ne_eqb c lf e, ne_eqb c cr f)
+is_plain q c a n =
+    rw (ne_eqb c q a, ne_eqb c backslash (λ e. n (inl e)), ne_eqb c dollar (λ e. n (inr (inl e))), ne_eqb c lf (λ e. n (inr (inr (inl e)))), ne_eqb c cr (λ e. n (inr (inr (inr e)))))
 
 module _ (t : List ℕ) (q : ℕ) (from : Stood) (h : from.at < length t) where
   pub byte_passed : {v : Bool} → (v ≡ true → (get_or t from.at 0 < 0x80) × Plain q (get_or t from.at 0)) → v ≡ true

@@ -1,8 +1,8 @@
 -- What taking a character leads to is small. Assumes nothing.
+use Rattle.lex_error.specs.declared.LexError.TheVariants.{UnterminatedString}
 use Rattle.std.specs.declared.ops.ControlFlow.TheVariants.{Break, Continue}
 use Rattle.std.specs.Prelude.{Err, None, Ok, Some}
 use Prim.Native.Nat.{ℕ}
-use native.Mathlib.Omega.{arith}
 use mathlib.Core.List.{List}
 use lib.Dec.{eqb}
 use lib.ListN.{length}
@@ -36,7 +36,7 @@ module _ (t : List ℕ) where
 
   pub unterminated_small : (start : Position) (here : Cursor) → Small start → LastSmall (Err (unterminated_at start here))
   unfolding unterminated_at
-  unterminated_small start here h = fault_tells (length t) 4 (omega arith) h
+  unterminated_small start here h = fault_tells (length t) UnterminatedString h
 
   pub end_small : (q : ℕ) (start : Position) (at : ℕ) (s : Scanning) → Small start → Small s.place → LastSmall (input_end q start at s)
   unfolding input_end

@@ -3,7 +3,6 @@ use Prim.Native.Nat.{ℕ}
 use mathlib.Core.List.{List}
 use mathlib.Core.Path.{◌≡◌, sym, ◌∙◌}
 use lib.ListN.{replicate}
-use Rattle.std.specs.Prelude.{Err}
 use Rattle.literal.specs.Trace.{Trace, bytes}
 use Rattle.literal.specs.Scans.{Scanned}
 use Rattle.reading.specs.CutRun.{scanned}

@@ -18,14 +18,14 @@ use Rattle.script.specs.declared.State.{State}
 use Rattle.script.proofs.Skips.{skipped_due, skipped_on}
 use Rattle.turn.proofs.Stepping.{part_kept, white_turn, white_kept, wrong_turn, wrong_kept, end_kept, step_due, step_found, found_further}
 use Rattle.turn.proofs.turn.Goals as goal
-use Rattle.turn.proofs.turn.Goals.{After-find-found, Start}
+use Rattle.turn.proofs.turn.Goals.{After-find, Start}
 
 -- the run before the turn
 abbrev started : Start → List ℕ → State
 started k braces = state k.args.cursor k.args.level braces k.args.due
 
 -- what was found
-module _ (k : After-find-found) where
+module _ (k : After-find) where
   abbrev b : Bounds
   b = k.args.room.bounds
 
@@ -47,10 +47,10 @@ module _ (k : After-find-found) where
   abbrev here : Cursor
   here = k.skip-here.result
 
-  is_found : find_of is_white text book here ≡ k.find-found.result
-  is_found = sym k.find-found.ensures
+  is_found : find_of is_white text book here ≡ k.find.result
+  is_found = sym k.find.ensures
 
-  further : {x : Found} → k.find-found.result ≡ x → Finds.Ahead text here.at x
+  further : {x : Found} → k.find.result ≡ x → Finds.Ahead text here.at x
   further q = found_further document01 text book (state here 0 ([]) false) (is_found ∙ q)
 
   module _ (braces : List ℕ) where
@@ -62,7 +62,7 @@ module _ (k : After-find-found) where
     is-skipped = skipped_on document01 text _ k.if-due.false ∙ ap (λ (c : Cursor). state c k.args.level braces false) (sym k.skip-here.ensures)
 
     -- the step, by what was found
-    stepped : {x : Found} → k.find-found.result ≡ x → step_of document01 text book s ≡ on_found document01 text s x
+    stepped : {x : Found} → k.find.result ≡ x → step_of document01 text book s ≡ on_found document01 text s x
     stepped q = step_found document01 text book s refl (is_found ∙ q)
 
 pub literal-requires : goal.literal-requires
@@ -77,36 +77,36 @@ returns-then-due c =
 
 pub part-requires : goal.part-requires
 part-requires c =
-    let f = further (goal.at.part-requires c).After-find-found c.in-Part.is in omega (arith, f.0)
+    let f = further (goal.at.part-requires c).After-find c.in-Part.is in omega (arith, f.0)
 
 pub literal-requires-in-Literal : goal.literal-requires-in-Literal
 literal-requires-in-Literal c =
-    ((further (goal.at.literal-requires-in-Literal c).After-find-found c.in-Literal.is).1, c.requires.2, c.requires.3)
+    ((further (goal.at.literal-requires-in-Literal c).After-find c.in-Literal.is).1, c.requires.2, c.requires.3)
 
 pub returns-in-White : goal.returns-in-White
 returns-in-White c =
     λ braces.
-    rw (is-skipped (goal.at.returns-in-White c).After-find-found braces, stepped (goal.at.returns-in-White c).After-find-found braces c.in-White.is)
-    (record { leads = (white_turn c.args.room.bounds c.args.room.listed c.args.room.used (s (goal.at.returns-in-White c).After-find-found braces) _, tt); literals = white_kept c.args.room.bounds c.args.room.listed c.args.room.used (s (goal.at.returns-in-White c).After-find-found braces) _ c.args.literals.now })
+    rw (is-skipped (goal.at.returns-in-White c).After-find braces, stepped (goal.at.returns-in-White c).After-find braces c.in-White.is)
+    (record { leads = (white_turn c.args.room.bounds c.args.room.listed c.args.room.used (s (goal.at.returns-in-White c).After-find braces) _, tt); literals = white_kept c.args.room.bounds c.args.room.listed c.args.room.used (s (goal.at.returns-in-White c).After-find braces) _ c.args.literals.now })
 
 pub returns-in-Part : goal.returns-in-Part
 returns-in-Part c =
     λ braces.
-    rw (is-skipped (goal.at.returns-in-Part c).After-find-found braces, stepped (goal.at.returns-in-Part c).After-find-found braces c.in-Part.is)
-    (record { leads = c.part.ensures c.args.level braces false; literals = part_kept c.args.room.bounds c.args.room.listed c.args.room.used (s (goal.at.returns-in-Part c).After-find-found braces) _ _ _ c.args.literals.now })
+    rw (is-skipped (goal.at.returns-in-Part c).After-find braces, stepped (goal.at.returns-in-Part c).After-find braces c.in-Part.is)
+    (record { leads = c.part.ensures c.args.level braces false; literals = part_kept c.args.room.bounds c.args.room.listed c.args.room.used (s (goal.at.returns-in-Part c).After-find braces) _ _ _ c.args.literals.now })
 
 pub returns-in-Literal : goal.returns-in-Literal
 returns-in-Literal c =
     λ braces.
-    rw (is-skipped (goal.at.returns-in-Literal c).After-find-found braces, stepped (goal.at.returns-in-Literal c).After-find-found braces c.in-Literal.is) (c.literal-in-Literal.ensures c.skip-here.result braces false)
+    rw (is-skipped (goal.at.returns-in-Literal c).After-find braces, stepped (goal.at.returns-in-Literal c).After-find braces c.in-Literal.is) (c.literal-in-Literal.ensures c.skip-here.result braces false)
 
 pub returns-in-Wrong : goal.returns-in-Wrong
 returns-in-Wrong c =
     λ braces.
-    rw (is-skipped (goal.at.returns-in-Wrong c).After-find-found braces, stepped (goal.at.returns-in-Wrong c).After-find-found braces c.in-Wrong.is, c.over.ensures)
-    (record { leads = (wrong_turn c.args.room.bounds c.args.room.listed c.args.room.used (s (goal.at.returns-in-Wrong c).After-find-found braces) _, tt); literals = wrong_kept c.args.room.bounds c.args.room.listed c.args.room.used (s (goal.at.returns-in-Wrong c).After-find-found braces) _ c.args.literals.now })
+    rw (is-skipped (goal.at.returns-in-Wrong c).After-find braces, stepped (goal.at.returns-in-Wrong c).After-find braces c.in-Wrong.is, c.over.ensures)
+    (record { leads = (wrong_turn c.args.room.bounds c.args.room.listed c.args.room.used (s (goal.at.returns-in-Wrong c).After-find braces) _, tt); literals = wrong_kept c.args.room.bounds c.args.room.listed c.args.room.used (s (goal.at.returns-in-Wrong c).After-find braces) _ c.args.literals.now })
 
 pub returns-in-End : goal.returns-in-End
 returns-in-End c =
     λ braces.
-    rw (is-skipped (goal.at.returns-in-End c).After-find-found braces, stepped (goal.at.returns-in-End c).After-find-found braces c.in-End.is) (record { leads = c.end.ensures braces; literals = end_kept c.args.room.bounds c.args.room.listed c.args.room.used (s (goal.at.returns-in-End c).After-find-found braces) c.args.literals.now })
+    rw (is-skipped (goal.at.returns-in-End c).After-find braces, stepped (goal.at.returns-in-End c).After-find braces c.in-End.is) (record { leads = c.end.ensures braces; literals = end_kept c.args.room.bounds c.args.room.listed c.args.room.used (s (goal.at.returns-in-End c).After-find braces) c.args.literals.now })

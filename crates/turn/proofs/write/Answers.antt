@@ -3,7 +3,7 @@ use Prim.Native.Nat.{ℕ, ◌+◌, ◌-◌, ◌≤◌}
 use native.Mathlib.Omega.{arith}
 use mathlib.Core.List.{List}
 use mathlib.Core.Path.{◌≡◌, ap, ◌∙◌}
-use lib.ListN.{length, take, drop}
+use lib.ListN.{length, take, drop, length-take}
 use Rattle.basis.specs.Store.{over}
 use Rattle.literal.specs.Answers.{full}
 use Rattle.literal.specs.Trace.{Trace, bytes}
@@ -59,19 +59,19 @@ returns-then-read-eq-HASH c =
     rw (c.write.ensures, ← raw_trace_lem document01 c.args.text.now c.args.read.opener c.args.read.from c.if-read-eq-HASH.true) (part_stored _ _ (bytes (literal_trace document01 c.args.text.now c.args.read.opener c.args.read.from)) (sized (goal.at.returns-then-read-eq-HASH c).Start).1)
 
 pub slice_bounds-copy-end : goal.slice_bounds-copy-end
-slice_bounds-copy-end c = omega (arith, (sized (goal.at.slice_bounds-copy-end c).Start).0, aside_room (bytes (literal_trace document01 c.args.text.now c.args.read.opener c.args.read.from)) c.args.aside.now (stands c))
+slice_bounds-copy-end c = rw (length-take c.args.read.len c.args.aside.now) (omega (arith, (sized (goal.at.slice_bounds-copy-end c).Start).0, aside_room (bytes (literal_trace document01 c.args.text.now c.args.read.opener c.args.read.from)) c.args.aside.now (stands c)))
 
 pub returns-then-len-le-ASIDE : goal.returns-then-len-le-ASIDE
 returns-then-len-le-ASIDE c =
     aside_stored (bytes (literal_trace document01 c.args.text.now c.args.read.opener c.args.read.from)) c.args.aside.now (stands (goal.at.returns-then-len-le-ASIDE c).Then-len-le-ASIDE) c.args.literals.now c.args.room.used c.args.read.len (sized (goal.at.returns-then-len-le-ASIDE c).Start).0 (sized (goal.at.returns-then-len-le-ASIDE c).Start).1 c.copy.ensures.out_after
 
 -- one that is scanned once more
-pub returns : goal.returns
-returns c =
+pub returns-else-len-le-ASIDE : goal.returns-else-len-le-ASIDE
+returns-else-len-le-ASIDE c =
     let n = c.if-read-eq-HASH.false in
     let is = string_trace_lem document01 c.args.text.now c.args.read.opener c.args.read.from n in
     let x = string_reading is_white c.args.text.now c.args.read.opener.terminator c.args.read.from in
     let old = take (length c.args.literals.now - c.args.room.used) (drop c.args.room.used c.args.literals.now) in
-    let fits : length (bytes x) ≤ length old = rw (← is) (room (goal.at.returns c).Start) in
+    let fits : length (bytes x) ≤ length old = rw (← is) (room (goal.at.returns-else-len-le-ASIDE c).Start) in
     let yes = c.scan.ensures.value ∙ string_cut document01 c.args.text.now c.args.read.opener c.args.read.from n _ _ ∙ in_room_lem c.args.room.bounds c.args.room.used (length c.args.literals.now) c.args.read.from (literal_trace document01 c.args.text.now c.args.read.opener c.args.read.from) c.requires.lent ∙ c.requires.accepted in
-    rw (accepted_kept x old yes c.scan.ensures.body_kept fits, ← is) (part_over _ _ (bytes (literal_trace document01 c.args.text.now c.args.read.opener c.args.read.from)) (sized (goal.at.returns c).Start).1)
+    rw (accepted_kept x old yes c.scan.ensures.body_kept fits, ← is) (part_over _ _ (bytes (literal_trace document01 c.args.text.now c.args.read.opener c.args.read.from)) (sized (goal.at.returns-else-len-le-ASIDE c).Start).1)

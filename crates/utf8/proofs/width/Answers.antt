@@ -3,24 +3,20 @@ use native.Mathlib.Omega.{arith}
 use mathlib.Core.Path.{sym, ◌∙◌}
 use Rattle.utf8.proofs.Widths.{row_none, row_two, fits_bits, fits_no_bits, char_width, end_width}
 use Rattle.utf8.proofs.width.Goals as goal
+use Rattle.utf8.proofs.width.Goals.{then-a-lt194-via-then-a-lt194, then-a-lt194-via-else-a-lt194+then-bits_at-gt63}
 
 pub returns-then-a-lt194 : goal.returns-then-a-lt194
-returns-then-a-lt194 c = rw (row_none _ _ (omega arith) c.if-a-lt194.true)
-
-pub returns-then-bits_at-gt63 : goal.returns-then-bits_at-gt63
-returns-then-bits_at-gt63 c = rw (row_two _ _ c.if-a-lt194.false (omega arith), fits_no_bits _ _ c.bits_at.ensures c.if-bits_at-gt63.true)
+returns-then-a-lt194 c = elim c.then-a-lt194.branch [
+  | then-a-lt194-via-then-a-lt194 w ↦ rw (row_none c.args.a _ (omega arith) w.if-a-lt194.true)
+  | then-a-lt194-via-else-a-lt194+then-bits_at-gt63 w ↦
+      rw (row_two c.args.a _ w.if-a-lt194.false (omega arith), fits_no_bits _ _ w.bits_at.ensures w.if-bits_at-gt63.true)
+]
 
 pub returns-then-a-lt224 : goal.returns-then-a-lt224
-returns-then-a-lt224 c = rw (row_two _ _ c.if-a-lt194.false (omega arith), fits_bits _ _ c.bits_at.ensures (omega arith))
+returns-then-a-lt224 c = rw (row_two c.args.a _ c.if-a-lt194.false (omega arith), fits_bits _ _ c.bits_at.ensures (omega arith))
 
-pub returns-then-is_three : goal.returns-then-is_three
-returns-then-is_three c = sym (c.is_three.ensures c.if-is_three.true)
+pub returns-in-Some : goal.returns-in-Some
+returns-in-Some c = char_width (sym c.longer.ensures ∙ c.in-Some.is)
 
-pub returns-then-is_four : goal.returns-then-is_four
-returns-then-is_four c = sym (c.is_four.ensures c.if-is_four.true)
-
-pub returns-in_default : goal.returns-in_default
-returns-in_default c = end_width (sym c.longer.ensures ∙ c.in_default.is)
-
-pub returns : goal.returns
-returns c = char_width (sym c.longer.ensures ∙ c.in-Some.is)
+pub returns-in-None : goal.returns-in-None
+returns-in-None c = end_width (sym c.longer.ensures ∙ c.in-None.is)

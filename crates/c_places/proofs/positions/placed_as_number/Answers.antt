@@ -9,4 +9,4 @@ returns-in-Ok c = rw c.in-Ok.is (c.pack.ensures ∙ at_number _)
 
 pub returns-in-Err : goal.returns-in-Err
 unfolding refusal_as_number
-returns-in-Err c = rw c.in-Err.is (refused_number _)
+returns-in-Err c = rw (c.in-Err.is, c.from.ensures, c.number.ensures) (refused_number _)

@@ -10,4 +10,4 @@ returns-in-Ok c = rw (c.in-Ok.is) c.short_number.ensures
 
 pub returns-in-Err : goal.returns-in-Err
 unfolding refusal_number
-returns-in-Err c = rw (c.in-Err.is) c.short_number-in-Err.ensures
+returns-in-Err c = rw c.in-Err.is (c.short_number-in-Err.ensures ∙ ap short_row_number (c.from.ensures ∙ c.number.ensures))

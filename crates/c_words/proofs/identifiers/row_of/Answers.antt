@@ -1,5 +1,6 @@
 -- Each arm is the row of what its case tells; a place that a case does not have is NONE, which is 0.
 use native.Mathlib.Omega.{arith}
+use Rattle.lex_error.proofs.Small.{number_small}
 use Rattle.identifier.specs.Told.{told}
 use Rattle.c_answer.proofs.Examples.{worked}
 use Rattle.c_words.proofs.identifiers.row_of.Goals as goal
@@ -7,9 +8,9 @@ use Rattle.c_words.proofs.identifiers.row_of.Goals as goal
 pub returns-in-Ok : goal.returns-in-Ok
 unfolding told
 returns-in-Ok c =
-    (rw (c.in-Ok.is, c.pack.ensures, worked.no_place), omega arith)
+    (rw (c.in-Ok.is, c.from.ensures, c.number.ensures, c.pack.ensures, worked.no_place), omega arith)
 
 pub returns-in-Err : goal.returns-in-Err
 unfolding told
 returns-in-Err c =
-    (rw (c.in-Err.is, c.pack-in-Err.ensures, c.pack-in-Err-2.ensures), omega arith)
+    (rw (c.in-Err.is, c.from-in-Err.ensures, c.number-in-Err.ensures, c.pack-in-Err.ensures, c.pack-in-Err-2.ensures), omega (arith, c.from-in-Err.ensures, c.number-in-Err.ensures, number_small c.in-Err.fault.error))

@@ -27,8 +27,18 @@ module _ (t : List ℕ) (at x stop : ℕ) (h : at < length t) (q : x ≡ get_or 
       let k = wide_char t at h (e ∙ ap (λ (b : ℕ). width_of (look (b ∷ drop (at + 1) t))) q) (λ z. omega (arith, r, z)) in
       absurd (omega (arith, at_width t at k.1, r, s))
 
-pub returns-then-stop-at : goal.returns-then-stop-at
-returns-then-stop-at c = let pre = c.requires in record { next_char = λ n. absurd (n refl); at_value = λ z s. no_room _ _ _ _ pre.0 pre.1 pre.2 pre.3 c.width-w.ensures c.if-stop-at.true s }
+pub returns-then-w-stop : goal.returns-then-w-stop
+returns-then-w-stop c =
+    let pre = c.requires in
+    record {
+      next_char = λ n. next _ _ _ _ pre.0 pre.1 pre.2 pre.3 c.width-w.ensures c.if-w-stop.true n;
+      at_value = λ z s. none_here _ _ _ _ pre.0 pre.1 pre.2 pre.3 c.width-w.ensures z;
+    }
 
-pub returns : goal.returns
-returns c = let pre = c.requires in record { next_char = λ n. next _ _ _ _ pre.0 pre.1 pre.2 pre.3 c.width-w.ensures c.if-stop-at.false n; at_value = λ z s. none_here _ _ _ _ pre.0 pre.1 pre.2 pre.3 c.width-w.ensures z }
+pub returns-else-w-stop : goal.returns-else-w-stop
+returns-else-w-stop c =
+    let pre = c.requires in
+    record {
+      next_char = λ n. absurd (n refl);
+      at_value = λ z s. no_room _ _ _ _ pre.0 pre.1 pre.2 pre.3 c.width-w.ensures c.if-w-stop.false s;
+    }

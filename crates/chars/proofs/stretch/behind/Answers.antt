@@ -2,4 +2,4 @@
 use Rattle.chars.proofs.stretch.behind.Goals as goal
 
 pub returns : goal.returns
-returns c = rw c.advanced_by-place.ensures
+returns c = rw c.advanced_by.ensures

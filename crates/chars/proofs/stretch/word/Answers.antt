@@ -7,6 +7,7 @@ use Rattle.chars.proofs.Stretches.{no_more, one_more}
 use Rattle.chars.specs.declared.stretch.Stretch.TheVariants.{Word}
 use Rattle.chars.proofs.stretch.Ends.{ends_there, word_goes, word_byte, word_stops}
 use Rattle.chars.proofs.stretch.word.Goals as goal
+use Rattle.chars.proofs.stretch.word.Goals.{then-loop-at-test+else-is_id_continue, else-loop-at-test}
 
 pub loop-at-init : goal.loop-at-init
 loop-at-init c = let z : c.args.from - c.args.from ≡ 0 = omega arith in (no_more z, omega arith)
@@ -29,12 +30,9 @@ loop-at-preserved c =
 pub overflow_sub-result : goal.overflow_sub-result
 overflow_sub-result c = c.loop-at.invariant.1
 
-pub returns-else-is_id_continue : goal.returns-else-is_id_continue
-returns-else-is_id_continue c =
-    word_stops _ _ c.loop-at-test.true (word_goes _ c.is_id_continue.ensures c.if-is_id_continue.false) c.loop-at.invariant.0
-
-pub overflow_sub-result-2 : goal.overflow_sub-result-2
-overflow_sub-result-2 c = c.loop-at.invariant.1
-
 pub returns : goal.returns
-returns c = ends_there Word _ c.loop-at.invariant.0 (look_past _ _ c.loop-at-test.false)
+returns c = elim c.loop-at-test.branch [
+  | then-loop-at-test+else-is_id_continue w ↦
+      word_stops _ _ w.loop-at-test.true (word_goes _ w.is_id_continue.ensures w.if-is_id_continue.false) c.loop-at.invariant.0
+  | else-loop-at-test w ↦ ends_there Word _ c.loop-at.invariant.0 (look_past _ _ w.loop-at-test.false)
+]

@@ -41,28 +41,52 @@ module _ (k : In-Some-eat_if) where
 -- or it closes
 module _ (k : In-Some-eat_if-2) where
   closed : eat_if_of k.args.text.now k.in-Some.next 0x2F ≡ char_taken k.in-Some-eat_if-2.field-0-0 k.in-Some-eat_if-2.after
-  closed = sym k.eat_if-then-c-eq-STAR.ensures ∙ k.in-Some-eat_if-2.is
+  closed = sym k.eat_if-in-42.ensures ∙ k.in-Some-eat_if-2.is
 
 pub returns-in_default : goal.returns-in_default
-returns-in_default c = record { value = ends _ _ _ (sym c.eat_next_and_advance.ensures ∙ c.in_default.is); turn_fits = tt }
+returns-in_default c = record {
+  value = ends _ _ _ (sym c.eat_next_and_advance.ensures ∙ c.in_default.is);
+  turn_fits = tt;
+}
 
-pub returns-in_default-eat_if : goal.returns-in_default-eat_if
-returns-in_default-eat_if c = record { value = slash _ _ _ (ate (goal.at.returns-in_default-eat_if c).In-Some) c.if-c-eq-SLASH.true (sym c.eat_if.ensures ∙ c.in_default-eat_if.is); turn_fits = still_fine _ _ _ (fine (goal.at.returns-in_default-eat_if c).In-Some) (moved (goal.at.returns-in_default-eat_if c).In-Some) (fine (goal.at.returns-in_default-eat_if c).In-Some).low (omega arith) }
+pub returns-in-Some-eat_if : goal.returns-in-Some-eat_if
+returns-in-Some-eat_if c = record {
+  value = opens _ _ _ (ate (goal.at.returns-in-Some-eat_if c).In-Some) c.in-47.is (opened c);
+  turn_fits = still_fine _ _ _ (fine (goal.at.returns-in-Some-eat_if c).In-Some) (twice_on _ _ _ 0x2A (moved (goal.at.returns-in-Some-eat_if c).In-Some) (opened c)) (omega arith) (omega arith);
+}
 
-pub returns-then-c-eq-SLASH : goal.returns-then-c-eq-SLASH
-returns-then-c-eq-SLASH c = record { value = opens _ _ _ (ate (goal.at.returns-then-c-eq-SLASH c).In-Some) c.if-c-eq-SLASH.true (opened c); turn_fits = still_fine _ _ _ (fine (goal.at.returns-then-c-eq-SLASH c).In-Some) (twice_on _ _ _ 0x2A (moved (goal.at.returns-then-c-eq-SLASH c).In-Some) (opened c)) (omega arith) (omega arith) }
+pub returns-in-None : goal.returns-in-None
+returns-in-None c = record {
+  value = slash _ _ _ (ate (goal.at.returns-in-None c).In-Some) c.in-47.is (sym c.eat_if.ensures ∙ c.in-None.is);
+  turn_fits = still_fine _ _ _ (fine (goal.at.returns-in-None c).In-Some) (moved (goal.at.returns-in-None c).In-Some) (fine (goal.at.returns-in-None c).In-Some).low (omega arith);
+}
 
-pub returns-in_default-eat_if-2 : goal.returns-in_default-eat_if-2
-returns-in_default-eat_if-2 c = record { value = star _ _ _ (ate (goal.at.returns-in_default-eat_if-2 c).In-Some) c.if-c-eq-STAR.true (sym c.eat_if-then-c-eq-STAR.ensures ∙ c.in_default-eat_if-2.is); turn_fits = still_fine _ _ _ (fine (goal.at.returns-in_default-eat_if-2 c).In-Some) (moved (goal.at.returns-in_default-eat_if-2 c).In-Some) (fine (goal.at.returns-in_default-eat_if-2 c).In-Some).low (omega arith) }
+pub returns-in-Some-eat_if-2 : goal.returns-in-Some-eat_if-2
+returns-in-Some-eat_if-2 c = record {
+  value = closes_last _ _ _ (ate (goal.at.returns-in-Some-eat_if-2 c).In-Some) c.in-42.is (closed (goal.at.returns-in-Some-eat_if-2 c).In-Some-eat_if-2) c.if-level-eq1.true;
+  turn_fits = tt;
+}
 
-pub returns-then-level-eq1 : goal.returns-then-level-eq1
-returns-then-level-eq1 c = record { value = closes_last _ _ _ (ate (goal.at.returns-then-level-eq1 c).In-Some) c.if-c-eq-STAR.true (closed (goal.at.returns-then-level-eq1 c).In-Some-eat_if-2) c.if-level-eq1.true; turn_fits = tt }
+pub returns-in-Some-2 : goal.returns-in-Some-2
+returns-in-Some-2 c = record {
+  value = closes _ _ _ (ate (goal.at.returns-in-Some-2 c).In-Some) c.in-42.is (closed (goal.at.returns-in-Some-2 c).In-Some-eat_if-2) c.if-level-eq1.false;
+  turn_fits = still_fine _ _ _ (fine (goal.at.returns-in-Some-2 c).In-Some) (twice_on _ _ _ 0x2F (moved (goal.at.returns-in-Some-2 c).In-Some) (closed (goal.at.returns-in-Some-2 c).In-Some-eat_if-2)) (omega (arith, fine (goal.at.returns-in-Some-2 c).In-Some, c.if-level-eq1.false)) (omega arith);
+}
 
-pub returns-then-c-eq-STAR : goal.returns-then-c-eq-STAR
-returns-then-c-eq-STAR c = record { value = closes _ _ _ (ate (goal.at.returns-then-c-eq-STAR c).In-Some) c.if-c-eq-STAR.true (closed (goal.at.returns-then-c-eq-STAR c).In-Some-eat_if-2) c.if-level-eq1.false; turn_fits = still_fine _ _ _ (fine (goal.at.returns-then-c-eq-STAR c).In-Some) (twice_on _ _ _ 0x2F (moved (goal.at.returns-then-c-eq-STAR c).In-Some) (closed (goal.at.returns-then-c-eq-STAR c).In-Some-eat_if-2)) (omega (arith, fine (goal.at.returns-then-c-eq-STAR c).In-Some, c.if-level-eq1.false)) (omega arith) }
+pub returns-in-None-eat_if : goal.returns-in-None-eat_if
+returns-in-None-eat_if c = record {
+  value = star _ _ _ (ate (goal.at.returns-in-None-eat_if c).In-Some) c.in-42.is (sym c.eat_if-in-42.ensures ∙ c.in-None-eat_if.is);
+  turn_fits = still_fine _ _ _ (fine (goal.at.returns-in-None-eat_if c).In-Some) (moved (goal.at.returns-in-None-eat_if c).In-Some) (fine (goal.at.returns-in-None-eat_if c).In-Some).low (omega arith);
+}
 
-pub returns-then-c-eq-LF : goal.returns-then-c-eq-LF
-returns-then-c-eq-LF c = record { value = rw c.lined-place.ensures (new_line _ _ _ (ate (goal.at.returns-then-c-eq-LF c).In-Some) c.if-c-eq-LF.true); turn_fits = still_fine _ _ _ (fine (goal.at.returns-then-c-eq-LF c).In-Some) (moved (goal.at.returns-then-c-eq-LF c).In-Some) (fine (goal.at.returns-then-c-eq-LF c).In-Some).low (omega arith) }
+pub returns-in-10 : goal.returns-in-10
+returns-in-10 c = record {
+  value = rw c.lined-place.ensures (new_line _ _ _ (ate (goal.at.returns-in-10 c).In-Some) c.in-10.is);
+  turn_fits = still_fine _ _ _ (fine (goal.at.returns-in-10 c).In-Some) (moved (goal.at.returns-in-10 c).In-Some) (fine (goal.at.returns-in-10 c).In-Some).low (omega arith);
+}
 
-pub returns : goal.returns
-returns c = record { value = plain _ _ _ (ate (goal.at.returns c).In-Some) c.if-c-eq-SLASH.false c.if-c-eq-STAR.false c.if-c-eq-LF.false; turn_fits = still_fine _ _ _ (fine (goal.at.returns c).In-Some) (moved (goal.at.returns c).In-Some) (fine (goal.at.returns c).In-Some).low (omega arith) }
+pub returns-in_default-c : goal.returns-in_default-c
+returns-in_default-c c = record {
+  value = plain _ _ _ (ate (goal.at.returns-in_default-c c).In-Some) (λ e. omega arith) (λ e. omega arith) (λ e. omega arith);
+  turn_fits = still_fine _ _ _ (fine (goal.at.returns-in_default-c c).In-Some) (moved (goal.at.returns-in_default-c c).In-Some) (fine (goal.at.returns-in_default-c c).In-Some).low (omega arith);
+}

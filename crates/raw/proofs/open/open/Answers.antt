@@ -38,15 +38,16 @@ pub returns-in_default : goal.returns-in_default
 returns-in_default c =
     c.refuse.ensures ∙ sym (so_far (goal.at.returns-in_default c).At-loop-c ∙ cut_off_lem _ _ _ _ (sym c.eat_next_and_advance.ensures ∙ c.in_default.is))
 
-pub returns-then-c-eq-QUOTE : goal.returns-then-c-eq-QUOTE
-returns-then-c-eq-QUOTE c = sym (so_far (goal.at.returns-then-c-eq-QUOTE c).At-loop-c ∙ quote_on _ _ _ _ (ate (goal.at.returns-then-c-eq-QUOTE c).In-Some) c.if-c-eq-QUOTE.true)
+pub returns-in-34 : goal.returns-in-34
+returns-in-34 c = sym (so_far (goal.at.returns-in-34 c).At-loop-c ∙ quote_on _ _ _ _ (ate (goal.at.returns-in-34 c).In-Some) c.in-34.is)
 
 pub overflow_sub-part : goal.overflow_sub-part
 overflow_sub-part c = omega (arith, on (goal.at.overflow_sub-part c).In-Some)
 
-pub returns-then-c-ne-HASH : goal.returns-then-c-ne-HASH
-returns-then-c-ne-HASH c =
-    c.refuse-then-c-ne-HASH.ensures ∙ sym (so_far (goal.at.returns-then-c-ne-HASH c).At-loop-c ∙ no_quote _ _ _ _ (ate (goal.at.returns-then-c-ne-HASH c).In-Some) c.if-c-eq-QUOTE.false c.if-c-ne-HASH.true)
+pub returns-in_default-c : goal.returns-in_default-c
+returns-in_default-c c =
+    let other : (c.in-Some.c ≡ 34 → ⊥) × (c.in-Some.c ≡ 35 → ⊥) = (λ q. omega (arith, q), λ q. omega (arith, q)) in
+    c.refuse-in_default-c.ensures ∙ sym (so_far (goal.at.returns-in_default-c c).At-loop-c ∙ no_quote _ _ _ _ (ate (goal.at.returns-in_default-c c).In-Some) other.0 other.1)
 
 pub overflow_add-k : goal.overflow_add-k
 overflow_add-k c = omega (arith, on (goal.at.overflow_add-k c).In-Some, c.loop-c.invariant.0)
@@ -56,4 +57,4 @@ loop-c-smaller c = omega (arith, on (goal.at.loop-c-smaller c).In-Some)
 
 pub loop-c-preserved : goal.loop-c-preserved
 loop-c-preserved c =
-    (omega (arith, on (goal.at.loop-c-preserved c).In-Some, c.loop-c.invariant.0), c.loop-c.invariant.1 ∙ hash_on _ _ _ _ (ate (goal.at.loop-c-preserved c).In-Some) c.if-c-ne-HASH.false)
+    (omega (arith, on (goal.at.loop-c-preserved c).In-Some, c.loop-c.invariant.0), c.loop-c.invariant.1 ∙ hash_on _ _ _ _ (ate (goal.at.loop-c-preserved c).In-Some) c.in-35.is)

@@ -15,15 +15,15 @@ module _ (k : In-Ok) where
 pub returns-in_default : goal.returns-in_default
 returns-in_default c = nothing_to_write as_source _ _ _ c.«open».ensures c.in_default.is _
 
-pub overflow_add-at : goal.overflow_add-at
-overflow_add-at c = omega (arith, within c)
+pub overflow_add-from : goal.overflow_add-from
+overflow_add-from c = omega (arith, within (goal.at.overflow_add-from c).In-Ok)
 
 pub slice_bounds-copy-start : goal.slice_bounds-copy-start
-slice_bounds-copy-start c = omega (arith, within c)
+slice_bounds-copy-start c = omega (arith, within (goal.at.slice_bounds-copy-start c).In-Ok)
 
 pub slice_bounds-copy-end : goal.slice_bounds-copy-end
-slice_bounds-copy-end c = within c
+slice_bounds-copy-end c = within (goal.at.slice_bounds-copy-end c).In-Ok
 
-pub returns : goal.returns
-returns c =
+pub returns-in-Ok : goal.returns-in-Ok
+returns-in-Ok c =
     written as_source _ _ _ c.«open».ensures c.in-Ok.is c.requires.1 _ c.requires.2 c.copy.ensures.out_after

@@ -4,4 +4,4 @@ use Rattle.run.proofs.layout.row.Goals as goal
 
 pub returns : goal.returns
 unfolding numbers_of
-returns c = rw (c.from.ensures, c.line_number.ensures, c.column_number.ensures)
+returns c = rw (c.from.ensures, c.number.ensures, c.line_number.ensures, c.column_number.ensures)

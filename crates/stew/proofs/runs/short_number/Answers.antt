@@ -1,9 +1,10 @@
 -- The door's number, or 9.
+use mathlib.Core.Path.{sym, ◌∙◌}
 use Rattle.stew.proofs.runs.Ways.{no_fault, own_fault}
 use Rattle.stew.proofs.runs.short_number.Goals as goal
 
-pub returns-then-number-eq0 : goal.returns-then-number-eq0
-returns-then-number-eq0 c = no_fault _ _ c.refuses-number.ensures c.if-number-eq0.true
+pub returns-in-Ok : goal.returns-in-Ok
+returns-in-Ok c = c.from.ensures ∙ c.number.ensures ∙ no_fault _ _ (sym c.refuses.ensures ∙ c.in-Ok.is)
 
-pub returns : goal.returns
-returns c = own_fault _ _ c.refuses-number.ensures c.if-number-eq0.false
+pub returns-in-Err : goal.returns-in-Err
+returns-in-Err c = c.from-in-Err.ensures ∙ c.number-in-Err.ensures ∙ own_fault _ _ (sym c.refuses.ensures ∙ c.in-Err.is)

@@ -4,26 +4,20 @@ use native.Mathlib.Omega.{arith}
 use mathlib.Core.Path.{◌≡◌}
 use Rattle.position.specs.Place.{start}
 use Rattle.string_turn.proofs.take.Passing.{passes_low, passes_within}
-use Rattle.string.proofs.scan.Leading.{stays, passes_on}
+use Rattle.string.proofs.scan.Leading.{passes_on}
 use Rattle.string.proofs.scan.add_byte.Goals as goal
 use Rattle.string.proofs.scan.add_byte.Goals.{After-pass_byte-stood}
 
 -- what was passed
 module _ (k : After-pass_byte-stood) where
   settled : k.args.here.skip ≡ 0
-  settled = k.if-below-ne0.false
+  settled = k.if-here-ne0.false
 
   low : k.args.here.at ≤ k.pass_byte-stood.result.at
   low = passes_low k.pass_byte-stood.ensures.string_passes
 
-pub returns-then-below-ne0 : goal.returns-then-below-ne0
-returns-then-below-ne0 c start = stays _ _ _ _ _ _ _ c.requires.1
-
 pub most-requires : goal.most-requires
 most-requires c = c.requires.1
-
-pub returns-then-most-eq0 : goal.returns-then-most-eq0
-returns-then-most-eq0 c start = stays _ _ _ _ _ _ _ c.requires.1
 
 pub copy-requires : goal.copy-requires
 copy-requires c = passes_within c.pass_byte-stood.ensures.string_passes

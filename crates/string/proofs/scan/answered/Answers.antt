@@ -2,11 +2,11 @@
 use Rattle.string.proofs.scan.Turning.{over_limit, accepted, refuses}
 use Rattle.string.proofs.scan.answered.Goals as goal
 
-pub returns-then-is_over : goal.returns-then-is_over
-returns-then-is_over c = search over_limit
-
 pub returns-in-Ok : goal.returns-in-Ok
-returns-in-Ok c = search accepted
+returns-in-Ok c = search over_limit
+
+pub returns-in-Ok-2 : goal.returns-in-Ok-2
+returns-in-Ok-2 c = search accepted
 
 pub returns-in-Err : goal.returns-in-Err
 returns-in-Err c = search refuses
