@@ -26,7 +26,9 @@ pub fn copy(from: &[u8], out: &mut [u8], at: usize) -> usize
     let Some(end) = room(out, at, from.len()) else {
         return at;
     };
-    out[at..end].copy_from_slice(from);
+    for (i, b) in from.iter().enumerate() {
+        out[at + i] = *b;
+    }
     end
 }
 
