@@ -61,6 +61,8 @@ pub(crate) fn high(text: &[u8], from: usize, stop: usize) -> Passed
 }
 
 // Passes the characters that are none of five, in `most` bytes at the most. The five are ASCII, so a longer character is none of them.
+// It is drawn into each scanner, which knows all five or all but one.
+#[inline(always)]
 pub fn pass(text: &[u8], from: usize, most: usize, a: u32, b: u32, d: u32, e: u32, f: u32) -> Passed
     requires { Low a b d e f }
     ensures stretch_of { StretchOf text.now (Other a b d e f) from result.count result.at }
