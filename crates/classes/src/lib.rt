@@ -19,15 +19,18 @@ pub fn is_numeric_digit(c: u32) -> bool
 pub fn is_id_first_alphabetic(c: u32) -> bool
     ensures { result ≡ is_id_first_alphabetic c }
 {
-    matches!(c, 0x41..=0x5A | 0x61..=0x7A)
+    matches!(c, 0x41..=0x5A) || matches!(c, 0x61..=0x7A)
 }
 
-// The Rust's `is_id_continue`: an ASCII letter, digit or underscore.
+// The Rust's `is_id_continue`: an ASCII letter, digit or underscore. Letters, which are most, are told first.
 #[tactic(auto, unfolding(crate::specs::Class::is_id_continue))]
 pub fn is_id_continue(c: u32) -> bool
     ensures { result ≡ is_id_continue c }
 {
-    is_id_first_alphabetic(c) || is_numeric_digit(c) || c == marks::UNDERSCORE
+    if is_id_first_alphabetic(c) {
+        return true;
+    }
+    is_numeric_digit(c) || c == marks::UNDERSCORE
 }
 
 // The Rust's `to_digit(16)`: the value of a hex digit.
