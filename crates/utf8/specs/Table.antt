@@ -42,14 +42,14 @@ further from w [] v bs = char_found (from + v) w
 further from w (r ∷ rs) v [] = None
 further from w (r ∷ rs) v (b ∷ bs) = pick (within r b) (further from w rs (v * 64 + (b - r.low)) bs) None
 
--- the character that the bytes begin with, by the row that has the first byte; End if no row has it
+-- the character that the bytes begin with, by the row that has the first byte; None if no row has it
 abbrev pub look_in : List TableRow → Text → Look
 look_in [] bs = None
 look_in (row from to r rs ∷ rows) [] = None
 look_in (row from to r rs ∷ rows) (b ∷ bs) =
     pick (within r b) (further from (suc (length rs)) rs (b - r.low) bs) (look_in rows (b ∷ bs))
 
--- the character that a text begins with: its code point and its width in bytes; End if none does
+-- the character that a text begins with: its code point and its width in bytes; None if none does
 unfoldable pub look : Text → Look
 look bs = look_in table37 bs
 

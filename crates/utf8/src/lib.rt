@@ -55,7 +55,7 @@ fn sized(text: &[u8], at: usize, n: usize, first: u32, least: u32) -> Look
     }
 }
 
-// The character at an offset whose byte, a, is above 7F: Table 3-6 read backwards. It has two callers, `look_at` and `width`, so that the compiler keeps it apart and those two small.
+// The character at an offset whose byte, a, is above 7F: Table 3-6 read backwards. It has two callers, `look_at` and `width_beyond`, so that the compiler keeps it apart and those two small.
 fn longer(text: &[u8], at: usize, a: u32) -> Look
     requires { (at < length text.now) × (0x80 ≤ a) }
     ensures { result ≡ look (a ∷ drop (at + 1) text.now) }
@@ -73,10 +73,10 @@ fn is_three(text: &[u8], at: usize, a: u32) -> bool
     requires { at < length text.now }
     ensures { result ≡ true → width_of (look (a ∷ drop (at + 1) text.now)) ≡ 3 }
 {
-    if a < 0xE1 || 0xEC < a {
+    if a < 0xE1 || 0xEC < a || 63 < bits_at(text, at + 1) {
         return false;
     }
-    bits_at(text, at + 1) < 64 && bits_at(text, at + 2) < 64
+    bits_at(text, at + 2) < 64
 }
 
 // Whether a character of four bytes whose first, a, is F0 stands at an offset: the row of the emoji.
@@ -84,11 +84,27 @@ fn is_four(text: &[u8], at: usize, a: u32) -> bool
     requires { at < length text.now }
     ensures { result ≡ true → width_of (look (a ∷ drop (at + 1) text.now)) ≡ 4 }
 {
-    let b = bits_at(text, at + 1);
-    if a != 0xF0 || b < 16 || 63 < b {
+    if a != 0xF0 {
         return false;
     }
-    bits_at(text, at + 2) < 64 && bits_at(text, at + 3) < 64
+    let b = bits_at(text, at + 1);
+    if b < 16 || 63 < b || 63 < bits_at(text, at + 2) {
+        return false;
+    }
+    bits_at(text, at + 3) < 64
+}
+
+// The width of the character at an offset whose byte, a, is above 7F, by that character; 0 where none begins. It is kept apart, so that
+// `width` stays small.
+#[inline(never)]
+fn width_beyond(text: &[u8], at: usize, a: u32) -> usize
+    requires { (at < length text.now) × (0x80 ≤ a) }
+    ensures { result ≡ width_of (look (a ∷ drop (at + 1) text.now)) }
+{
+    match longer(text, at, a) {
+        Some((_, w)) => w,
+        None => 0,
+    }
 }
 
 // The width of the character at an offset whose byte, a, is above 7F; 0 where none begins. The common rows are seen at once.
@@ -108,10 +124,7 @@ pub fn width(text: &[u8], at: usize, a: u32) -> usize
     if is_four(text, at, a) {
         return 4;
     }
-    match longer(text, at, a) {
-        Some((_, w)) => w,
-        None => 0,
-    }
+    width_beyond(text, at, a)
 }
 
 // The character at an offset; None also past the end.

@@ -4,10 +4,10 @@ use borrow.Author.Tests.{ltb-true}
 use Rattle.utf8.proofs.Widths.{row_three, fits_on, fits_bits}
 use Rattle.utf8.proofs.is_three.Goals as goal
 
-pub returns-then-bits_at-lt64 : goal.returns-then-bits_at-lt64
-returns-then-bits_at-lt64 c y =
+pub returns : goal.returns
+returns c y =
     rw (
       row_three c.args.a _ (omega arith) (omega arith),
       fits_on _ _ 1 _ _ (fits_bits _ _ c.bits_at.ensures (omega arith)),
-      fits_bits _ _ c.bits_at-then-bits_at-lt64.ensures (ltb-true _ _ y),
+      fits_bits _ _ c.bits_at-2.ensures (ltb-true _ _ y),
     )

@@ -1,7 +1,6 @@
--- The common rows tell the width, and else the character that `longer` reads.
+-- The common rows tell the width, and else `width_beyond`.
 use native.Mathlib.Omega.{arith}
-use mathlib.Core.Path.{sym, ◌∙◌}
-use Rattle.utf8.proofs.Widths.{row_none, row_two, fits_bits, fits_no_bits, char_width, end_width}
+use Rattle.utf8.proofs.Widths.{row_none, row_two, fits_bits, fits_no_bits}
 use Rattle.utf8.proofs.width.Goals as goal
 use Rattle.utf8.proofs.width.Goals.{then-a-lt194-via-then-a-lt194, then-a-lt194-via-else-a-lt194+then-bits_at-gt63}
 
@@ -14,9 +13,3 @@ returns-then-a-lt194 c = elim c.then-a-lt194.branch [
 
 pub returns-then-a-lt224 : goal.returns-then-a-lt224
 returns-then-a-lt224 c = rw (row_two c.args.a _ c.if-a-lt194.false (omega arith), fits_bits _ _ c.bits_at.ensures (omega arith))
-
-pub returns-in-Some : goal.returns-in-Some
-returns-in-Some c = char_width (sym c.longer.ensures ∙ c.in-Some.is)
-
-pub returns-in-None : goal.returns-in-None
-returns-in-None c = end_width (sym c.longer.ensures ∙ c.in-None.is)
