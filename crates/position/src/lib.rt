@@ -73,10 +73,14 @@ impl Position {
         0 < self.line
     }
 
+    // It returns twice: of one choice between the two the compiler makes one number, which every move then takes apart.
     pub fn or_else(self, pos: Position) -> Self
         ensures { result ≡ or_else self pos }
     {
-        if self.is_none() { pos } else { self }
+        if self.is_none() {
+            return pos;
+        }
+        self
     }
 
     // The moves with no refusal, for a scan whose start was found good: a number at its end stays there.
