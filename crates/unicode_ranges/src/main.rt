@@ -15,7 +15,11 @@ fn next<F: Fn(u32) -> bool>(from: u32, wanted: F) -> u32
     requires within { from ≤ 0x110000 }
     ensures { (from ≤ result) × (result ≤ 0x110000) }
 {
-    (from..END).find(|&c| wanted(c)).unwrap_or(END)
+    let mut c = from;
+    while c < END && !wanted(c) {
+        c += 1;
+    }
+    c
 }
 
 // Writes each range of code points that have the property of this name.
