@@ -8,8 +8,8 @@ use position::Position;
 use std::mem;
 
 // What a line asks.
-#[derive(Drop)]
-pub(crate) struct Case<'a> {
+#[derive(Clone, Copy)]
+pub struct Case<'a> {
     // The first four bytes of the line.
     pub name: [u8; 4],
     fields: [usize; 12],
