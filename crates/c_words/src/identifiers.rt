@@ -8,6 +8,9 @@ ghost use Rattle.c_words.specs.IdentifierRow.{identifier_numbers, identifier_row
 use identifier::scan::Identified;
 use position::Position;
 
+// The number of a word that is found.
+const FOUND: u64 = 0;
+
 // The number is small, so that a caller can cast it.
 fn row_of(scanned: Identified) -> [u64; 8]
     ensures { (result ≡ identifier_numbers (told scanned)) × (get_or result 0 0 ≤ 255) }
@@ -16,7 +19,7 @@ fn row_of(scanned: Identified) -> [u64; 8]
         Ok(word) => {
             let cursor = word.cursor;
             return [
-                0,
+                FOUND,
                 u64::from(word.kind.number()),
                 word.token as u64,
                 cursor.at as u64,
